@@ -21,10 +21,10 @@ use Rattle.c_constants.specs.declared.part.Part.{Part}
 use Rattle.c_constants.specs.declared.part.Part.TheVariants as part
 use Rattle.c_constants.specs.declared.pass.Pass.{Pass}
 use Rattle.c_constants.specs.Entries as entries
-use Rattle.c_constants.specs.Laws.{IsWordToken, AreWordTokens, AreInRange, LeftLaw}
-use Rattle.c_constants.specs.Parts.{part_at, name_at, after, token_part}
+use Rattle.c_constants.specs.Laws.{IsWordToken, AreWordTokens, AreInRange, TokensLeftLaw}
+use Rattle.c_constants.specs.Parts.{part_at, name_at, next_place, token_part}
 use Rattle.c_constants.specs.Passes as passes
-use Rattle.c_constants.specs.Passes.{run}
+use Rattle.c_constants.specs.Passes.{pass_run}
 use Rattle.c_constants.specs.StandIns as stand_ins
 use Rattle.c_constants.proofs.Words.{small_word, zero_word, IsWordOr, AreWords, named_word}
 use Rattle.c_constants.proofs.Words.{HoldsEntry, entry_word}
@@ -34,7 +34,7 @@ HoldsInRange (Ok list) = AreInRange list.tokens
 HoldsInRange (Err fault) = Unit {0}
 
 put_good : (out : Tokens) (p : Placed) → AreInRange out.tokens → IsWordToken p
-    → HoldsInRange (stand_ins.put out p)
+    → HoldsInRange (stand_ins.put_one out p)
 put_good out p good w = by_test (nat_lt (length out.tokens) 16384) refl
   where
     by_test : (b : Bool) → nat_lt (length out.tokens) 16384 ≡ b → HoldsInRange (if b
@@ -58,18 +58,18 @@ put_all_good : (out : Tokens) (ps : List Placed) → AreInRange out.tokens → A
     → HoldsInRange (stand_ins.put_all out ps)
 put_all_good out [] good w = good
 put_all_good out (p ∷ ps) good w =
-    then_good (stand_ins.put out p) (λ more. stand_ins.put_all more ps) (put_good out p good w.0)
-    (λ more h. put_all_good more ps h w.1)
+    then_good (stand_ins.put_one out p) (λ more. stand_ins.put_all more ps)
+    (put_good out p good w.0) (λ more h. put_all_good more ps h w.1)
 
 value_words : (line start : ℕ) (v : ℤ) → IsWord v
-    → AreWordTokens (stand_ins.placed line start (stand_ins.word_tokens v))
+    → AreWordTokens (stand_ins.placed_all line start (stand_ins.word_tokens v))
 value_words line start (pos n) w = (w, tt)
 value_words line start (negsuc n) w = by_test (n == 2 ^ 63 - 1) refl
   where
     by_test : (b : Bool) → (n == 2 ^ 63 - 1) ≡ b
-        → AreWordTokens (stand_ins.placed line start (if b
-        then stand_ins.bracket mark.Tilde (pos (2 ^ 63 - 1))
-        else stand_ins.bracket mark.Minus (pos (suc n))))
+        → AreWordTokens (stand_ins.placed_all line start (if b
+        then stand_ins.in_brackets mark.Tilde (pos (2 ^ 63 - 1))
+        else stand_ins.in_brackets mark.Minus (pos (suc n))))
     by_test true e =
         (zero_word, (zero_word, (small_word (2 ^ 63 - 1) (omega arith), (zero_word, tt))))
     by_test false e =
@@ -79,9 +79,9 @@ value_words line start (negsuc n) w = by_test (n == 2 ^ 63 - 1) refl
 
 stand_in_words : (names : List Constant) (p : Placed) → AreWords names → IsWordToken p
     → AreWordTokens (stand_ins.stand_ins names p)
-stand_in_words names p known w = by_word (stand_ins.word_of names p.token) (of_token p.token)
+stand_in_words names p known w = by_word (stand_ins.constant_word names p.token) (of_token p.token)
   where
-    of_token : (t : Token) → IsWordOr (stand_ins.word_of names t)
+    of_token : (t : Token) → IsWordOr (stand_ins.constant_word names t)
     of_token (token.Name text) = named_word names text known
     of_token _ = tt
 
@@ -125,7 +125,7 @@ module _ (list : Tokens) (numbers : AreWordTokens list.tokens) where
   }
   defined_good p (Err fault) good h = tt
 
-  kept_good : (p : Pass) → IsGoodPass p → HoldsPass (passes.kept list p)
+  kept_good : (p : Pass) → IsGoodPass p → HoldsPass (passes.keeps_token list p)
   kept_good p good = by_got (slice_get list.tokens p.place) (got_word list.tokens p.place numbers)
     where
       by_out : (t : Part) (r : Result Tokens ConstFault) → HoldsInRange r
@@ -151,33 +151,33 @@ module _ (list : Tokens) (numbers : AreWordTokens list.tokens) where
       (entries.entry_at list p.constants next p.place) good
       (entry_word list numbers p.constants good.constants next p.place
       (part_at list p.place) w)
-  step_good p good None w = either_good (passes.begins p (part_at list p.place))
-      (passes.opened list p) (passes.kept list p)
-      (opened_good p (after list p.place) (part_at list (after list p.place)) good)
+  step_good p good None w = either_good (passes.begins_definition p (part_at list p.place))
+      (passes.opens_definition list p) (passes.keeps_token list p)
+      (opened_good p (next_place list p.place) (part_at list (next_place list p.place)) good)
       (kept_good p good)
 
   abbrev Runs : (steps : ℕ) → Type 0
-  Runs steps = (p : Pass) → IsGoodPass p → HoldsInRange (run steps list p)
+  Runs steps = (p : Pass) → IsGoodPass p → HoldsInRange (pass_run steps list p)
 
   stepped_good : (steps : ℕ) (r : Result Pass ConstFault) → HoldsPass r → Runs steps
-      → HoldsInRange (passes.then_run r (run steps list))
+      → HoldsInRange (passes.then_run r (pass_run steps list))
   stepped_good steps (Ok q) h more = more q h
   stepped_good steps (Err fault) h more = tt
 
   done_good : (steps : ℕ) (p : Pass) (b : Bool) → IsGoodPass p → Runs steps → HoldsInRange (if b
-      then Ok p.out else passes.then_run (passes.step list p) (run steps list))
+      then Ok p.out else passes.then_run (passes.pass_step list p) (pass_run steps list))
   done_good steps p true good more = good.out
   done_good steps p false good more =
-      stepped_good steps (passes.step list p) (step_good p good p.next good.next) more
+      stepped_good steps (passes.pass_step list p) (step_good p good p.next good.next) more
 
   run_good : (steps : ℕ) → Runs steps
-  unfolding run
+  unfolding pass_run
   run_good zero p good = good.out
   run_good (suc steps) p good = done_good steps p (passes.is_done list p) good (run_good steps)
 
-pub left : LeftLaw
+pub left : TokensLeftLaw
 left all list numbers is =
-    subst HoldsInRange is (run_good all numbers (suc (length all.tokens)) (passes.begun all)
+    subst HoldsInRange is (run_good all numbers (suc (length all.tokens)) (passes.first_pass all)
     (record {
       constants = tt;
       next = tt;

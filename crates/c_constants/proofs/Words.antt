@@ -28,10 +28,11 @@ use Rattle.c_constants.specs.declared.term.Sign.TheVariants as sign
 use Rattle.c_constants.specs.declared.term.Term.{Term}
 use Rattle.c_constants.specs.Entries as entries
 use Rattle.c_constants.specs.Laws.{AreWordTokens}
-use Rattle.c_constants.specs.Names.{value_named}
-use Rattle.c_constants.specs.Parts.{part_at, placed_number, name_at, after, too_deep, bad_number}
+use Rattle.c_constants.specs.Names.{constant_named}
+use Rattle.c_constants.specs.Parts.{part_at, placed_number, name_at, next_place, too_deep}
+use Rattle.c_constants.specs.Parts.{bad_number}
 use Rattle.c_constants.specs.Terms as terms
-use Rattle.c_constants.specs.Terms.{Read, Task, Operand, Group, read}
+use Rattle.c_constants.specs.Terms.{Read, Task, Operand, Group, read_value}
 
 pub small_word : (n : ℕ) → n ≤ 2 ^ 63 - 1 → IsWord (pos n)
 small_word n le = (omega (arith, ints), omega (arith, ints, le))
@@ -110,13 +111,13 @@ abbrev pub AreWords : List Constant → Type 0
 AreWords names = AllByRecursion (λ (c : Constant). IsWord c.word) names
 
 pub named_word : (names : List Constant) (name : List ℕ) → AreWords names
-    → IsWordOr (value_named names name)
+    → IsWordOr (constant_named names name)
 named_word [] name h = tt
 named_word (c ∷ cs) name h =
     either (bytes_eq name c.name) h.0 (named_word cs name h.1)
   where
-    either : (b : Bool) → IsWord c.word → IsWordOr (value_named cs name)
-        → IsWordOr (if b then Some c.word else value_named cs name)
+    either : (b : Bool) → IsWord c.word → IsWordOr (constant_named cs name)
+        → IsWordOr (if b then Some c.word else constant_named cs name)
     either true w more = w
     either false w more = more
 
@@ -145,7 +146,7 @@ HoldsEntry (Err fault) = Unit {0}
 module _ (list : Tokens) (numbers : AreWordTokens list.tokens) (names : List Constant)
     (known : AreWords names) where
   whole_word : (go : Task → Read) → Gives go → (level room place : ℕ)
-      → HoldsWord (terms.whole go level room place)
+      → HoldsWord (terms.read_whole go level room place)
   whole_word go gives level room place =
       then_word (go (Operand room place)) (λ t. go (Group level t))
       (gives (Operand room place) tt) (λ t w. gives (Group level t) w)
@@ -156,12 +157,13 @@ module _ (list : Tokens) (numbers : AreWordTokens list.tokens) (names : List Con
   closed_word room t _ w = tt
 
   bracket_word : (go : Task → Read) → Gives go → (room place : ℕ)
-      → HoldsWord (terms.bracket go list room place)
+      → HoldsWord (terms.read_bracket go list room place)
   bracket_word go gives room place =
       unless_word (room == 0) (too_deep list place)
-      (terms.then_read (terms.whole go 6 (room - 1) (after list place)) (terms.closed list room))
-      (then_word (terms.whole go 6 (room - 1) (after list place)) (terms.closed list room)
-      (whole_word go gives 6 (room - 1) (after list place))
+      (terms.then_read (terms.read_whole go 6 (room - 1) (next_place list place))
+      (terms.closed list room))
+      (then_word (terms.read_whole go 6 (room - 1) (next_place list place)) (terms.closed list room)
+      (whole_word go gives 6 (room - 1) (next_place list place))
       (λ t w. closed_word room t (part_at list t.place) w))
 
   unary_word : (go : Task → Read) → Gives go → (room place : ℕ) (o : Option Sign)
@@ -169,9 +171,10 @@ module _ (list : Tokens) (numbers : AreWordTokens list.tokens) (names : List Con
   unary_word go gives room place None = tt
   unary_word go gives room place (Some s) =
       unless_word (room == 0) (too_deep list place)
-      (terms.then_read (go (Operand (room - 1) (after list place))) (λ t. Ok (terms.signed s t)))
-      (then_word (go (Operand (room - 1) (after list place))) (λ t. Ok (terms.signed s t))
-      (gives (Operand (room - 1) (after list place)) tt) (λ t w. signed_word s t.word w))
+      (terms.then_read (go (Operand (room - 1) (next_place list place)))
+      (λ t. Ok (terms.signed s t)))
+      (then_word (go (Operand (room - 1) (next_place list place))) (λ t. Ok (terms.signed s t))
+      (gives (Operand (room - 1) (next_place list place)) tt) (λ t w. signed_word s t.word w))
 
   known_word : (room place : ℕ) (o : Option ℤ) → IsWordOr o
       → HoldsWord (terms.known_term list room place o)
@@ -179,18 +182,18 @@ module _ (list : Tokens) (numbers : AreWordTokens list.tokens) (names : List Con
   known_word room place (Some v) w = w
 
   operand_word : (go : Task → Read) → Gives go → (room place : ℕ) (p : Part)
-      → HoldsWord (terms.operand go list names room place p)
+      → HoldsWord (terms.read_operand go list names room place p)
   operand_word go gives room place part.Number = number_word list.tokens place numbers
   operand_word go gives room place part.Name =
-      known_word room place (value_named names (name_at list place))
+      known_word room place (constant_named names (name_at list place))
       (named_word names (name_at list place) known)
   operand_word go gives room place part.OpenRound = bracket_word go gives room place
-  operand_word go gives room place p = unary_word go gives room place (terms.sign_of p)
+  operand_word go gives room place p = unary_word go gives room place (terms.constant_sign p)
 
   joined_word : (o : BinOp) (left right : Term) → IsWord left.word → IsWord right.word
       → HoldsWord (terms.joined list o left right)
   joined_word o left right wl wr =
-      unless_word (terms.divides o && (unsigned right.word == 0)) (bad_number list left.place)
+      unless_word (terms.is_division o && (unsigned right.word == 0)) (bad_number list left.place)
       (Ok (record {
         word = applied o left.word right.word;
         room = right.room;
@@ -200,9 +203,12 @@ module _ (list : Tokens) (numbers : AreWordTokens list.tokens) (names : List Con
   joined_on_word : (go : Task → Read) → Gives go → (level : ℕ) (left : Term) (o : BinOp)
       → IsWord left.word → HoldsWord (terms.joined_on go list level left o)
   joined_on_word go gives level left o w =
-      then_word (terms.whole go (terms.level_of o - 1) (left.room - 1) (after list left.place))
+      then_word
+      (terms.read_whole go (terms.constant_level o - 1) (left.room - 1)
+      (next_place list left.place))
       (λ right. terms.then_read (terms.joined list o left right) (λ both. go (Group level both)))
-      (whole_word go gives (terms.level_of o - 1) (left.room - 1) (after list left.place))
+      (whole_word go gives (terms.constant_level o - 1) (left.room - 1)
+      (next_place list left.place))
       (λ right wr. then_word (terms.joined list o left right) (λ both. go (Group level both))
       (joined_word o left right w wr) (λ both wb. gives (Group level both) wb))
 
@@ -213,16 +219,16 @@ module _ (list : Tokens) (numbers : AreWordTokens list.tokens) (names : List Con
       unless_word (left.room == 0) (too_deep list left.place)
       (terms.joined_on go list level left o) (joined_on_word go gives level left o w)
 
-  task_word : (go : Task → Read) → Gives go → Gives (terms.step go list names)
+  task_word : (go : Task → Read) → Gives go → Gives (terms.read_task go list names)
   task_word go gives (Operand room place) w =
       operand_word go gives room place (part_at list place)
   task_word go gives (Group level left) w =
-      grouped_word go gives level left (terms.operator_of level (part_at list left.place)) w
+      grouped_word go gives level left (terms.constant_operator level (part_at list left.place)) w
 
-  read_word : (steps : ℕ) → Gives (read steps list names)
-  unfolding read
+  read_word : (steps : ℕ) → Gives (read_value steps list names)
+  unfolding read_value
   read_word zero task w = tt
-  read_word (suc steps) task w = task_word (read steps list names) (read_word steps) task w
+  read_word (suc steps) task w = task_word (read_value steps list names) (read_word steps) task w
 
   ending_word : (place : ℕ) (p : Part) → HoldsNext (entries.ending_by list place p)
   ending_word place part.Semicolon = tt
@@ -230,29 +236,29 @@ module _ (list : Tokens) (numbers : AreWordTokens list.tokens) (names : List Con
 
   comma_word : (v : ℤ) (place : ℕ) (p : Part) → HoldsNext (entries.comma_by list v place p)
   comma_word v place part.CloseBrace =
-      ending_word (after list place) (part_at list (after list place))
+      ending_word (next_place list place) (part_at list (next_place list place))
   comma_word v place _ = wrap_word _
 
   follows_word : (t : Term) (p : Part) → HoldsNext (entries.follows_by list t p)
   follows_word t part.Comma =
-      comma_word t.word (after list t.place) (part_at list (after list t.place))
+      comma_word t.word (next_place list t.place) (part_at list (next_place list t.place))
   follows_word t part.CloseBrace =
-      ending_word (after list t.place) (part_at list (after list t.place))
+      ending_word (next_place list t.place) (part_at list (next_place list t.place))
   follows_word t _ = tt
 
-  behind_word : (next : ℤ) (place : ℕ) (p : Part) → IsWord next
+  word_after : (next : ℤ) (place : ℕ) (p : Part) → IsWord next
       → HoldsWord (entries.value_by list names next place p)
-  behind_word next place part.Assign w = whole_word (read 64 list names) (read_word 64) 6 63
-      (after list place)
-  behind_word next place _ w = w
+  word_after next place part.Assign w = whole_word (read_value 64 list names) (read_word 64) 6 63
+      (next_place list place)
+  word_after next place _ w = w
 
   followed_word : (v : ℤ) (f : Result Follows ConstFault) → IsWord v → HoldsNext f
-      → HoldsEntry (entries.with_word v f)
+      → HoldsEntry (entries.with_follows v f)
   followed_word v (Ok f) w n = (w, n)
   followed_word v (Err fault) w n = tt
 
   valued_word : (r : Read) → HoldsWord r → HoldsEntry (entries.then_entry list r)
-  valued_word (Ok t) w = followed_word t.word (entries.behind_value list t) w
+  valued_word (Ok t) w = followed_word t.word (entries.after_value list t) w
       (follows_word t (part_at list t.place))
   valued_word (Err fault) w = tt
 
@@ -260,11 +266,11 @@ module _ (list : Tokens) (numbers : AreWordTokens list.tokens) (names : List Con
       → HoldsEntry (entries.entry_new list names next place o)
   new_word next place (Some v) w = tt
   new_word next place None w =
-      valued_word (entries.value_behind list names next (after list place))
-      (behind_word next (after list place) (part_at list (after list place)) w)
+      valued_word (entries.value_after list names next (next_place list place))
+      (word_after next (next_place list place) (part_at list (next_place list place)) w)
 
   pub entry_word : (next : ℤ) (place : ℕ) (p : Part) → IsWord next
       → HoldsEntry (entries.entry_by list names next place p)
   entry_word next place part.Name w =
-      new_word next place (value_named names (name_at list place)) w
+      new_word next place (constant_named names (name_at list place)) w
   entry_word next place _ w = tt

@@ -7,7 +7,7 @@ use Rattle.c_lexer.specs.TokenList.{Tokens}
 use Rattle.c_lexer.specs.declared.scan.TheConstants.{MOST_TOKENS}
 use Rattle.c_lexer.specs.declared.token.Placed.{Placed}
 use Rattle.c_constants.specs.Parts.{placed_number}
-use Rattle.c_constants.specs.Passes.{answer}
+use Rattle.c_constants.specs.Passes.{tokens_left}
 
 -- the token's number is a word; a token that is no number counts as 0
 abbrev pub IsWordToken : Placed → Type 0
@@ -20,6 +20,6 @@ pub record AreInRange (ts : List Placed) : Type 0 where
   pub few : length ts ≤ MOST_TOKENS
   pub words : AreWordTokens ts
 
-abbrev pub LeftLaw : Type 0
-LeftLaw = (all list : Tokens) → AreWordTokens all.tokens → answer all ≡ Ok list
+abbrev pub TokensLeftLaw : Type 0
+TokensLeftLaw = (all list : Tokens) → AreWordTokens all.tokens → tokens_left all ≡ Ok list
     → AreInRange list.tokens

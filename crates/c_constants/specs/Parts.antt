@@ -69,12 +69,12 @@ part_at list place = placed_part (slice_get list.tokens place)
 abbrev pub name_at : Tokens → ℕ → List ℕ
 name_at list place = placed_name (slice_get list.tokens place)
 
-abbrev pub number_at : Tokens → ℕ → ℤ
-number_at list place = placed_number (slice_get list.tokens place)
+abbrev pub token_number_at : Tokens → ℕ → ℤ
+token_number_at list place = placed_number (slice_get list.tokens place)
 
 -- the place after a token; the end has none after it
-abbrev pub after : Tokens → ℕ → ℕ
-after list place = if nat_lt place (length list.tokens) then place + 1 else place
+abbrev pub next_place : Tokens → ℕ → ℕ
+next_place list place = if nat_lt place (length list.tokens) then place + 1 else place
 
 -- the refusals, each at the token of a place or at the end
 abbrev pub syntax : Tokens → ℕ → ConstFault
@@ -83,8 +83,8 @@ syntax list place = fault.Syntax (line_at list place) (start_at list place)
 abbrev pub too_deep : Tokens → ℕ → ConstFault
 too_deep list place = fault.TooDeep (line_at list place) (start_at list place)
 
-abbrev pub twice : Tokens → ℕ → ConstFault
-twice list place = fault.Twice (line_at list place) (start_at list place)
+abbrev pub named_twice : Tokens → ℕ → ConstFault
+named_twice list place = fault.Twice (line_at list place) (start_at list place)
 
 abbrev pub unknown_name : Tokens → ℕ → ConstFault
 unknown_name list place = fault.UnknownName (line_at list place) (start_at list place)

@@ -12,36 +12,36 @@ use Rattle.c_lexer.specs.declared.token.Token.TheVariants as token
 use Rattle.c_constants.specs.declared.fault.ConstFault.{ConstFault}
 use Rattle.c_constants.specs.declared.fault.ConstFault.TheVariants as fault
 use Rattle.c_constants.specs.declared.name.Constant.{Constant}
-use Rattle.c_constants.specs.Names.{value_named}
+use Rattle.c_constants.specs.Names.{constant_named}
 
-abbrev pub bracket : Mark → ℤ → List Token
-bracket m number =
+abbrev pub in_brackets : Mark → ℤ → List Token
+in_brackets m number =
     token.Mark mark.OpenRound ∷ token.Mark m ∷ token.Number number ∷ token.Mark mark.CloseRound ∷ []
 
 -- `negsuc n` is -(n + 1)
 abbrev pub word_tokens : ℤ → List Token
 word_tokens (pos n) = token.Number (pos n) ∷ []
 word_tokens (negsuc n) =
-    if n == 2 ^ 63 - 1 then bracket mark.Tilde (pos (2 ^ 63 - 1))
-    else bracket mark.Minus (pos (suc n))
+    if n == 2 ^ 63 - 1 then in_brackets mark.Tilde (pos (2 ^ 63 - 1))
+    else in_brackets mark.Minus (pos (suc n))
 
-abbrev pub placed : (line start : ℕ) → List Token → List Placed
-placed line start tokens = map (λ t. record { token = t; line = line; start = start }) tokens
+abbrev pub placed_all : (line start : ℕ) → List Token → List Placed
+placed_all line start tokens = map (λ t. record { token = t; line = line; start = start }) tokens
 
-abbrev pub word_of : List Constant → Token → Option ℤ
-word_of names (token.Name text) = value_named names text
-word_of names _ = None
+abbrev pub constant_word : List Constant → Token → Option ℤ
+constant_word names (token.Name text) = constant_named names text
+constant_word names _ = None
 
 abbrev pub stand_ins_by : Placed → Option ℤ → List Placed
 stand_ins_by p None = p ∷ []
-stand_ins_by p (Some w) = placed p.line p.start (word_tokens w)
+stand_ins_by p (Some w) = placed_all p.line p.start (word_tokens w)
 
 abbrev pub stand_ins : List Constant → Placed → List Placed
-stand_ins names p = stand_ins_by p (word_of names p.token)
+stand_ins names p = stand_ins_by p (constant_word names p.token)
 
 -- one token more, or the refusal of a list of over 16,384
-abbrev pub put : Tokens → Placed → Result Tokens ConstFault
-put out p =
+abbrev pub put_one : Tokens → Placed → Result Tokens ConstFault
+put_one out p =
     if nat_lt (length out.tokens) MOST_TOKENS
     then Ok (record { tokens = out.tokens ++ p ∷ []; last = out.last; size = out.size })
     else Err fault.TooLong
@@ -53,4 +53,4 @@ then_put (Err f) go = Err f
 
 abbrev pub put_all : Tokens → List Placed → Result Tokens ConstFault
 put_all out [] = Ok out
-put_all out (p ∷ ps) = then_put (put out p) (λ more. put_all more ps)
+put_all out (p ∷ ps) = then_put (put_one out p) (λ more. put_all more ps)

@@ -89,8 +89,8 @@ pub(crate) fn too_deep(tokens: &TokenList, place: u64) -> ConstFault
     }
 }
 
-pub(crate) fn twice(tokens: &TokenList, place: u64) -> ConstFault
-    ensures { result ≡ parts.twice tokens.now place }
+pub(crate) fn named_twice(tokens: &TokenList, place: u64) -> ConstFault
+    ensures { result ≡ parts.named_twice tokens.now place }
 {
     ConstFault::Twice {
         line: line(tokens, place),

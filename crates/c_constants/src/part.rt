@@ -96,8 +96,8 @@ pub(crate) fn name_at(tokens: &TokenList, place: u64) -> &str
 }
 
 /// The number at a place; 0 if there is none.
-pub(crate) fn number_at(tokens: &TokenList, place: u64) -> i64
-    ensures { result ≡ parts.number_at tokens.now place }
+pub(crate) fn token_number_at(tokens: &TokenList, place: u64) -> i64
+    ensures { result ≡ parts.token_number_at tokens.now place }
 {
     match tokens.get(place) {
         Some(placed) => match &placed.token {
@@ -109,8 +109,8 @@ pub(crate) fn number_at(tokens: &TokenList, place: u64) -> i64
 }
 
 /// The place after a token; the end has none after it.
-pub(crate) fn after(tokens: &TokenList, place: u64) -> u64
-    ensures place { result ≡ parts.after tokens.now place }
+pub(crate) fn next_place(tokens: &TokenList, place: u64) -> u64
+    ensures place { result ≡ parts.next_place tokens.now place }
     ensures onward { place ≤ result }
     ensures past { place < length tokens.now.tokens → result ≡ place + 1 }
     ensures inside { place ≤ length tokens.now.tokens → result ≤ length tokens.now.tokens }

@@ -4,14 +4,14 @@ ghost use Rattle.std.specs.Prelude.{◌≡◌, ◌⊎◌, IfOk};
 ghost use Rattle.c_constants.specs.StandIns as stand_ins;
 
 use crate::fault::ConstFault;
-use crate::name::{Constant, value_named};
+use crate::name::{Constant, constant_named};
 use c_lexer::{MOST_TOKENS, Mark, Placed, Token, TokenList};
 use nvm_base::Text;
 use std::alloc::{AllocError, Global};
 
-/// Puts one more token behind all others, if there is room.
-fn put(out: TokenList, token: Token, line: u64, start: u64) -> Result<TokenList, ConstFault>
-    ensures { (result ≡ Err ConstFault.NoMemory) ⊎ (result ≡ stand_ins.put out
+/// Puts one more token after all others, if there is room.
+fn put_one(out: TokenList, token: Token, line: u64, start: u64) -> Result<TokenList, ConstFault>
+    ensures { (result ≡ Err ConstFault.NoMemory) ⊎ (result ≡ stand_ins.put_one out
         (record { token = token; line = line; start = start })) }
 {
     let mut out = out;
@@ -31,21 +31,21 @@ fn put_bracket(
     start: u64,
 ) -> Result<TokenList, ConstFault>
     ensures { (result ≡ Err ConstFault.NoMemory) ⊎ (result ≡ stand_ins.put_all out
-        (stand_ins.placed line start (stand_ins.bracket mark number))) }
+        (stand_ins.placed_all line start (stand_ins.in_brackets mark number))) }
 {
-    let out = put(out, Token::Mark(Mark::OpenRound), line, start)?;
-    let out = put(out, Token::Mark(mark), line, start)?;
-    let out = put(out, Token::Number(number), line, start)?;
-    put(out, Token::Mark(Mark::CloseRound), line, start)
+    let out = put_one(out, Token::Mark(Mark::OpenRound), line, start)?;
+    let out = put_one(out, Token::Mark(mark), line, start)?;
+    let out = put_one(out, Token::Number(number), line, start)?;
+    put_one(out, Token::Mark(Mark::CloseRound), line, start)
 }
 
 /// Puts the tokens of a word.
 fn put_word(out: TokenList, word: i64, line: u64, start: u64) -> Result<TokenList, ConstFault>
     ensures { (result ≡ Err ConstFault.NoMemory) ⊎ (result ≡ stand_ins.put_all out
-        (stand_ins.placed line start (stand_ins.word_tokens word))) }
+        (stand_ins.placed_all line start (stand_ins.word_tokens word))) }
 {
     if word >= 0 {
-        return put(out, Token::Number(word), line, start);
+        return put_one(out, Token::Number(word), line, start);
     }
     if word == i64::MIN {
         return put_bracket(out, Mark::Tilde, i64::MAX, line, start);
@@ -71,11 +71,11 @@ fn copied(alloc: Global, token: &Token) -> Result<Token, AllocError>
 }
 
 /// The word that stands for a token.
-fn word_of(constants: &[Constant], token: &Token) -> Option<i64>
-    ensures { result ≡ stand_ins.word_of constants.now token.now }
+fn constant_word(constants: &[Constant], token: &Token) -> Option<i64>
+    ensures { result ≡ stand_ins.constant_word constants.now token.now }
 {
     match token {
-        Token::Name(text) => value_named(constants, text.as_str()),
+        Token::Name(text) => constant_named(constants, text.as_str()),
         _ => None,
     }
 }
@@ -90,11 +90,11 @@ pub(crate) fn put_token(
     ensures { (result ≡ Err ConstFault.NoMemory) ⊎ (result ≡ stand_ins.put_all out
         (stand_ins.stand_ins constants.now placed.now)) }
 {
-    match word_of(constants, &placed.token) {
+    match constant_word(constants, &placed.token) {
         Some(word) => put_word(out, word, placed.line, placed.start),
         None => {
             let token = copied(alloc, &placed.token)?;
-            put(out, token, placed.line, placed.start)
+            put_one(out, token, placed.line, placed.start)
         }
     }
 }

@@ -1,20 +1,20 @@
 //! The values of expressions of constants.
 
 ghost use Rattle.std.specs.Prelude.{◌≡◌, ◌<◌, ◌≤◌, ◌-◌, ℕ, length, IfOk};
-ghost use Rattle.c_constants.specs.Names.{value_named};
+ghost use Rattle.c_constants.specs.Names.{constant_named};
 ghost use Rattle.c_constants.specs.Parts.{name_at};
 ghost use Rattle.c_constants.specs.Terms as terms;
 
 use crate::fault::{ConstFault, bad_number, syntax, too_deep, unknown_name};
-use crate::name::{Constant, value_named};
-use crate::part::{Part, after, name_at, number_at, part_at};
+use crate::name::{Constant, constant_named};
+use crate::part::{Part, name_at, next_place, part_at, token_number_at};
 use c_lexer::TokenList;
 use nvm_base::{BinOp, sub};
 
 /// The loosest level of operators.
 const LOOSEST: u8 = 6;
 
-/// What the weight may grow behind the brace of a definition.
+/// What the weight may grow after the brace of a definition.
 const ROOM: u64 = 63;
 
 /// What has been read of an expression.
@@ -35,8 +35,8 @@ enum Sign {
     Complement,
 }
 
-fn level_of(op: BinOp) -> u8
-    ensures level { result ≡ terms.level_of op }
+fn constant_level(op: BinOp) -> u8
+    ensures level { result ≡ terms.constant_level op }
     ensures some { 0 < result }
 {
     match op {
@@ -50,12 +50,12 @@ fn level_of(op: BinOp) -> u8
 }
 
 /// The operator that a token is, if it is one of at most that level.
-fn operator_of(level: u8, part: Part) -> Option<BinOp>
-    ensures { result ≡ terms.operator_of level part }
+fn constant_operator(level: u8, part: Part) -> Option<BinOp>
+    ensures { result ≡ terms.constant_operator level part }
 {
     match part {
         Part::Operator(op) => {
-            if level_of(op) <= level {
+            if constant_level(op) <= level {
                 Some(op)
             } else {
                 None
@@ -65,8 +65,8 @@ fn operator_of(level: u8, part: Part) -> Option<BinOp>
     }
 }
 
-fn sign_of(part: Part) -> Option<Sign>
-    ensures { result ≡ terms.sign_of part }
+fn constant_sign(part: Part) -> Option<Sign>
+    ensures { result ≡ terms.constant_sign part }
 {
     match part {
         Part::Operator(BinOp::Sub) => Some(Sign::Negate),
@@ -97,8 +97,8 @@ fn signed(sign: Sign, term: Term) -> Term
     }
 }
 
-fn divides(op: BinOp) -> bool
-    ensures { result ≡ terms.divides op }
+fn is_division(op: BinOp) -> bool
+    ensures { result ≡ terms.is_division op }
 {
     match op {
         BinOp::Div | BinOp::Rem => true,
@@ -106,13 +106,13 @@ fn divides(op: BinOp) -> bool
     }
 }
 
-/// Two sides joined by the operator that stands behind the left one.
+/// Two sides joined by the operator that stands after the left one.
 fn joined(tokens: &TokenList, op: BinOp, left: Term, right: Term) -> Result<Term, ConstFault>
     ensures joined { result ≡ terms.joined tokens.now op left right }
     ensures room { IfOk result (λ t. t.room ≤ right.room) }
     ensures place { IfOk result (λ t. t.place ≡ right.place) }
 {
-    if divides(op) && right.word.cast_unsigned() == 0 {
+    if is_division(op) && right.word.cast_unsigned() == 0 {
         return Err(bad_number(tokens, left.place));
     }
     Ok(Term {
@@ -130,9 +130,9 @@ fn number_term(tokens: &TokenList, room: u64, place: u64) -> Term
     ensures inside { result.place ≤ length tokens.now.tokens }
 {
     Term {
-        word: number_at(tokens, place),
+        word: token_number_at(tokens, place),
         room,
-        place: after(tokens, place),
+        place: next_place(tokens, place),
     }
 }
 
@@ -145,16 +145,16 @@ fn known_term(
 ) -> Result<Term, ConstFault>
     requires inside { place ≤ length tokens.now.tokens }
     ensures term { result ≡ terms.known_term tokens.now room place
-        (value_named constants.now (name_at tokens.now place)) }
+        (constant_named constants.now (name_at tokens.now place)) }
     ensures room { IfOk result (λ t. t.room ≤ room) }
     ensures onward { IfOk result (λ t. place ≤ t.place) }
     ensures inside { IfOk result (λ t. t.place ≤ length tokens.now.tokens) }
 {
-    match value_named(constants, name_at(tokens, place)) {
+    match constant_named(constants, name_at(tokens, place)) {
         Some(word) => Ok(Term {
             word,
             room,
-            place: after(tokens, place),
+            place: next_place(tokens, place),
         }),
         None => Err(unknown_name(tokens, place)),
     }
@@ -172,7 +172,7 @@ fn closed(tokens: &TokenList, room: u64, term: Term) -> Result<Term, ConstFault>
         Part::CloseRound => Ok(Term {
             word: term.word,
             room,
-            place: after(tokens, term.place),
+            place: next_place(tokens, term.place),
         }),
         _ => Err(syntax(tokens, term.place)),
     }
@@ -189,12 +189,12 @@ pub(crate) fn expression(
     ensures onward { IfOk result (λ t. place ≤ t.place) }
     ensures inside { IfOk result (λ t. t.place ≤ length tokens.now.tokens) }
 {
-    whole(tokens, constants, LOOSEST, ROOM, place)
+    read_whole(tokens, constants, LOOSEST, ROOM, place)
 }
 
 /// An operand, and what is joined to it by operators of at most a level.
 #[cycle(terms)]
-fn whole(
+fn read_whole(
     tokens: &TokenList,
     constants: &[Constant],
     level: u8,
@@ -203,12 +203,12 @@ fn whole(
 ) -> Result<Term, ConstFault>
     requires inside { place ≤ length tokens.now.tokens }
     ensures term { (steps : ℕ) → room < steps → result ≡
-        terms.whole (terms.read steps tokens.now constants.now) level room place }
+        terms.read_whole (terms.read_value steps tokens.now constants.now) level room place }
     ensures room { IfOk result (λ t. t.room ≤ room) }
     ensures onward { IfOk result (λ t. place ≤ t.place) }
     ensures inside { IfOk result (λ t. t.place ≤ length tokens.now.tokens) }
 {
-    match operand(tokens, constants, room, place) {
+    match read_operand(tokens, constants, room, place) {
         Err(fault) => Err(fault),
         Ok(first) => grouped(tokens, constants, level, first),
     }
@@ -216,7 +216,7 @@ fn whole(
 
 /// An expression in brackets.
 #[cycle(terms)]
-fn bracket(
+fn read_bracket(
     tokens: &TokenList,
     constants: &[Constant],
     room: u64,
@@ -224,7 +224,7 @@ fn bracket(
 ) -> Result<Term, ConstFault>
     requires inside { place ≤ length tokens.now.tokens }
     ensures term { (steps : ℕ) → room ≤ steps → result ≡
-        terms.bracket (terms.read steps tokens.now constants.now) tokens.now room place }
+        terms.read_bracket (terms.read_value steps tokens.now constants.now) tokens.now room place }
     ensures room { IfOk result (λ t. t.room ≤ room) }
     ensures onward { IfOk result (λ t. place ≤ t.place) }
     ensures inside { IfOk result (λ t. t.place ≤ length tokens.now.tokens) }
@@ -232,13 +232,19 @@ fn bracket(
     if room == 0 {
         return Err(too_deep(tokens, place));
     }
-    match whole(tokens, constants, LOOSEST, room - 1, after(tokens, place)) {
+    match read_whole(
+        tokens,
+        constants,
+        LOOSEST,
+        room - 1,
+        next_place(tokens, place),
+    ) {
         Err(fault) => Err(fault),
         Ok(term) => closed(tokens, room, term),
     }
 }
 
-/// An operand behind a unary operator.
+/// An operand after a unary operator.
 #[cycle(terms)]
 fn unary(
     tokens: &TokenList,
@@ -249,19 +255,19 @@ fn unary(
 ) -> Result<Term, ConstFault>
     requires inside { place ≤ length tokens.now.tokens }
     ensures term { (steps : ℕ) → room ≤ steps → result ≡
-        terms.unary (terms.read steps tokens.now constants.now) tokens.now room place
-        (terms.sign_of part) }
+        terms.unary (terms.read_value steps tokens.now constants.now) tokens.now room place
+        (terms.constant_sign part) }
     ensures room { IfOk result (λ t. t.room ≤ room) }
     ensures onward { IfOk result (λ t. place ≤ t.place) }
     ensures inside { IfOk result (λ t. t.place ≤ length tokens.now.tokens) }
 {
-    match sign_of(part) {
+    match constant_sign(part) {
         None => Err(syntax(tokens, place)),
         Some(sign) => {
             if room == 0 {
                 return Err(too_deep(tokens, place));
             }
-            match operand(tokens, constants, room - 1, after(tokens, place)) {
+            match read_operand(tokens, constants, room - 1, next_place(tokens, place)) {
                 Err(fault) => Err(fault),
                 Ok(term) => Ok(signed(sign, term)),
             }
@@ -271,8 +277,8 @@ fn unary(
 
 /// An operand.
 #[cycle(terms)]
-#[tactic(auto, unfolding(crate::specs::Terms::read))]
-fn operand(
+#[tactic(auto, unfolding(crate::specs::Terms::read_value))]
+fn read_operand(
     tokens: &TokenList,
     constants: &[Constant],
     room: u64,
@@ -280,7 +286,7 @@ fn operand(
 ) -> Result<Term, ConstFault>
     requires inside { place ≤ length tokens.now.tokens }
     ensures term { (steps : ℕ) → room < steps → result ≡
-        terms.read steps tokens.now constants.now (terms.Operand room place) }
+        terms.read_value steps tokens.now constants.now (terms.Operand room place) }
     ensures room { IfOk result (λ t. t.room ≤ room) }
     ensures onward { IfOk result (λ t. place ≤ t.place) }
     ensures inside { IfOk result (λ t. t.place ≤ length tokens.now.tokens) }
@@ -289,14 +295,14 @@ fn operand(
     match part {
         Part::Number => Ok(number_term(tokens, room, place)),
         Part::Name => known_term(tokens, constants, room, place),
-        Part::OpenRound => bracket(tokens, constants, room, place),
+        Part::OpenRound => read_bracket(tokens, constants, room, place),
         _ => unary(tokens, constants, room, place, part),
     }
 }
 
 /// What is joined to a term by operators of at most a level.
 #[cycle(terms)]
-#[tactic(auto, unfolding(crate::specs::Terms::read))]
+#[tactic(auto, unfolding(crate::specs::Terms::read_value))]
 fn grouped(
     tokens: &TokenList,
     constants: &[Constant],
@@ -305,12 +311,12 @@ fn grouped(
 ) -> Result<Term, ConstFault>
     requires inside { left.place ≤ length tokens.now.tokens }
     ensures term { (steps : ℕ) → left.room < steps → result ≡
-        terms.read steps tokens.now constants.now (terms.Group level left) }
+        terms.read_value steps tokens.now constants.now (terms.Group level left) }
     ensures room { IfOk result (λ t. t.room ≤ left.room) }
     ensures onward { IfOk result (λ t. left.place ≤ t.place) }
     ensures inside { IfOk result (λ t. t.place ≤ length tokens.now.tokens) }
 {
-    match operator_of(level, part_at(tokens, left.place)) {
+    match constant_operator(level, part_at(tokens, left.place)) {
         None => Ok(left),
         Some(op) => {
             if left.room == 0 {
@@ -333,13 +339,19 @@ fn right_side(
     requires inside { left.place ≤ length tokens.now.tokens }
     requires some { 0 < left.room }
     ensures term { (steps : ℕ) → left.room ≤ steps → result ≡
-        terms.joined_on (terms.read steps tokens.now constants.now) tokens.now level left op }
+        terms.joined_on (terms.read_value steps tokens.now constants.now) tokens.now level left op }
     ensures room { IfOk result (λ t. t.room ≤ left.room) }
     ensures onward { IfOk result (λ t. left.place ≤ t.place) }
     ensures inside { IfOk result (λ t. t.place ≤ length tokens.now.tokens) }
 {
-    let next = after(tokens, left.place);
-    match whole(tokens, constants, level_of(op) - 1, left.room - 1, next) {
+    let next = next_place(tokens, left.place);
+    match read_whole(
+        tokens,
+        constants,
+        constant_level(op) - 1,
+        left.room - 1,
+        next,
+    ) {
         Err(fault) => Err(fault),
         Ok(right) => match joined(tokens, op, left, right) {
             Err(fault) => Err(fault),

@@ -45,7 +45,7 @@ using_defined prefix =
     ++ (twice (codes "int64_t ") (codes "_pool_last(struct ") LAST.now prefix
     ++ twice COUNTS_BEGIN.now (codes "_pool_events(struct ") COUNTS_END.now prefix))
 
--- the call of transaction n, behind its arguments
+-- the call of transaction n, after its arguments
 unfoldable pub call_text : ℕ → List ℕ
 call_text n = codes "0};\n    return cn_call(pool, " ++ (decimal n ++ codes ", args);\n}\n")
 

@@ -10,7 +10,7 @@ use crate::types::TYPES;
 use nvm_base::Text;
 use std::alloc::{AllocError, Global};
 
-/// The guard of a program's declarations, between its prefixes and behind them.
+/// The guard of a program's declarations, between its prefixes and after them.
 pub const GUARD_MIDDLE: &str = "\n#define CNVM_POOL_";
 
 pub const GUARD_LAST: &str = "
@@ -27,7 +27,7 @@ pub const HEADER_ENDS: &str = "
 #endif
 ";
 
-/// The heads of the functions that make and open a pool, behind the prefix.
+/// The heads of the functions that make and open a pool, after the prefix.
 pub const CREATE: &str = "_pool_create(const char *path, int sync, struct cnvm_fault *fault)";
 
 pub const OPEN: &str = "_pool_open(const char *path, int sync, struct cnvm_answer *recovered,

@@ -76,7 +76,7 @@ fn push_using(text: &mut Text, prefix: &str) -> Result<(), AllocError>
     Ok(())
 }
 
-/// Writes the call of a transaction, behind its arguments.
+/// Writes the call of a transaction, after its arguments.
 #[tactic(auto, unfolding(crate::specs::File::call_text))]
 fn push_call(alloc: Global, text: &mut Text, number: usize) -> Result<(), AllocError>
     ensures { OnOk result (text.new ≡ text.old ++ call_text number) }

@@ -10,7 +10,7 @@ use nvm_base::Text;
 use pm_machine::{Function, Op};
 use std::alloc::{AllocError, Global};
 
-/// Writes an instruction on a line of its own, behind its label.
+/// Writes an instruction on a line of its own, after its label.
 fn push_line(alloc: Global, text: &mut Text, place: usize, op: &Op) -> Result<(), AllocError>
     ensures { OnOk result (text.new ≡ text.old
         ++ lines_from place (statement_of place op.now ∷ [])) }

@@ -8,7 +8,7 @@ use Rattle.c_lexer.specs.TokenList.{Tokens, line_at}
 use Rattle.c_lexer.specs.declared.fault.LexFault.{LexFault}
 use Rattle.c_lexer.specs.declared.token.Placed.{Placed}
 use Rattle.c_constants.specs.declared.fault.ConstFault.{ConstFault}
-use Rattle.c_constants.specs.Left.{Leaves}
+use Rattle.c_constants.specs.Left.{LeavesTokens}
 use Rattle.c_constants.specs.Passes as passes
 use Rattle.c_parser.specs.declared.fault.ParseFault.{ParseFault}
 use Rattle.c_parser.specs.declared.fault.ParseFault.TheVariants as parse
@@ -152,21 +152,21 @@ no_rule : (f : TypeFault) → (let a : Option TypeFault = None in let b : Option
 no_rule f is = cc
 
 -- a text has one list of tokens, and its constants leave one list
-pub lists_same : (text : List ℕ) (one two : Tokens) → Leaves text one → Leaves text two
+pub lists_same : (text : List ℕ) (one two : Tokens) → LeavesTokens text one → LeavesTokens text two
     → one ≡ two
 lists_same text one two a b =
     let all : a.all ≡ b.all = same_list a.all b.all (sym a.cut ∙ b.cut) in
-    same_list one two (sym a.left ∙ (ap passes.answer all ∙ b.left))
+    same_list one two (sym a.left ∙ (ap passes.tokens_left all ∙ b.left))
 
 not_lexed : (text : List ℕ) (fault : LexFault) (list : Tokens) → answer text ≡ Err fault
     → answer text ≡ Ok list → ⊥
 not_lexed text fault list a b = apart fault list (sym a ∙ b)
 
 not_left : (text : List ℕ) (fault : ConstFault) (all list : Tokens) → answer text ≡ Ok all
-    → passes.answer all ≡ Err fault → Leaves text list → ⊥
+    → passes.tokens_left all ≡ Err fault → LeavesTokens text list → ⊥
 not_left text fault all list cut told is =
     let same : all ≡ is.all = same_list all is.all (sym cut ∙ is.cut) in
-    apart fault list (sym told ∙ (ap passes.answer same ∙ is.left))
+    apart fault list (sym told ∙ (ap passes.tokens_left same ∙ is.left))
 
 refused_same : (text : List ℕ) (f g : ProgramFault) → RefusesText text f → RefusesText text g
     → IsSame f g
@@ -178,7 +178,7 @@ refused_same text (Lex f) (Types g) a b =
 refused_same text (Constants f) (Lex g) a b = absurd (not_lexed text g a.0 b.0 a.1)
 refused_same text (Constants f) (Constants g) a b =
     let same : a.0 ≡ b.0 = same_list a.0 b.0 (sym a.1 ∙ b.1) in
-    ap Constants (same_fault f g (sym a.2 ∙ (ap passes.answer same ∙ b.2)))
+    ap Constants (same_fault f g (sym a.2 ∙ (ap passes.tokens_left same ∙ b.2)))
 refused_same text (Constants f) (Parse g n) a b = absurd (not_left text f a.0 b.0 a.1 a.2 b.1)
 refused_same text (Constants f) (Types g) a b =
     absurd (not_left text f a.0 b.has.0 a.1 a.2 b.has.1)

@@ -5,7 +5,7 @@ use Rattle.std.proofs.Common.{subst}
 use Rattle.std.specs.Option.{option_map_or}
 use Rattle.c_lexer.specs.Cuts.{answer}
 use Rattle.c_lexer.specs.TokenList.{Tokens}
-use Rattle.c_constants.specs.Left.{Leaves}
+use Rattle.c_constants.specs.Left.{LeavesTokens}
 use Rattle.c_constants.specs.Passes as passes
 use Rattle.c_tree.specs.ItemTree.{ItemTree}
 use Rattle.c_tree.specs.Program.{Program, tree_of}
@@ -40,7 +40,7 @@ tree_same list tree other is only too =
     (sym (only other too))
 
 pub leaves_list : (text : List ℕ) (all list : Tokens) → answer text ≡ Ok all
-    → passes.answer all ≡ Ok list → Leaves text list
+    → passes.tokens_left all ≡ Ok list → LeavesTokens text list
 leaves_list text all list cut left = record { all = all; cut = cut; left = left }
 
 pub constants_refused : (text : List ℕ) (all : Tokens) (fault : ProgramFault)
@@ -53,7 +53,7 @@ constants_refused text all (Types fault) cut told = absurd told
 
 pub ruleset listed = (leaves_list, constants_refused)
 
-pub list_refused : (text : List ℕ) (list : Tokens) (fault : ProgramFault) → Leaves text list
+pub list_refused : (text : List ℕ) (list : Tokens) (fault : ProgramFault) → LeavesTokens text list
     → RefusesList list fault → RefusesText text fault
 list_refused text list (Parse fault line) left told = (list, left, told)
 list_refused text list NoMemory left told = tt
@@ -62,7 +62,7 @@ list_refused text list (Constants fault) left told = absurd told
 list_refused text list (Types fault) left told = absurd told
 
 pub text_refused : (text : List ℕ) (list : Tokens) (tree : Program) (fault : ProgramFault)
-    → Leaves text list → IsTree list tree
+    → LeavesTokens text list → IsTree list tree
     → IsOnlyTree list tree → RefusesTree tree fault → RefusesText text fault
 text_refused text list tree (Types fault) left is only told = record {
   tree = tree;

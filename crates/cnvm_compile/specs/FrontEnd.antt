@@ -5,7 +5,7 @@ use Rattle.std.specs.Prelude.{ℕ, ◌+◌, List, [], ◌≡◌, ◌≢◌, map,
 use Rattle.c_lexer.specs.declared.fault.LexFault.TheVariants as lex
 use Rattle.c_lexer.specs.Cuts.{answer}
 use Rattle.c_constants.specs.declared.fault.ConstFault.TheVariants as constants
-use Rattle.c_constants.specs.Left.{Leaves}
+use Rattle.c_constants.specs.Left.{LeavesTokens}
 use Rattle.c_constants.specs.Passes as passes
 use Rattle.c_lexer.specs.TokenList.{Tokens, line_at}
 use Rattle.c_parser.specs.declared.fault.ParseFault.{ParseFault}
@@ -29,7 +29,7 @@ pub record IsTree (list : Tokens) (tree : Program) : Type 0 where
   pub last : tree.last ≡ list.last
 
 abbrev pub HasTree : List ℕ → Program → Type 0
-HasTree text tree = (list : Tokens) × Leaves text list × IsTree list tree
+HasTree text tree = (list : Tokens) × LeavesTokens text list × IsTree list tree
 
 -- the text has this tree, and it breaks no rule
 abbrev pub AcceptsText : List ℕ → Program → Type 0
@@ -51,8 +51,8 @@ RefusesToken list parse.NoMemory line = ⊥
 abbrev pub RefusesText : List ℕ → ProgramFault → Type 0
 RefusesText text (Lex fault) = (answer text ≡ Err fault) × (fault ≢ lex.NoMemory)
 RefusesText text (Constants fault) = (list : Tokens) × (answer text ≡ Ok list)
-    × (passes.answer list ≡ Err fault) × (fault ≢ constants.NoMemory)
-RefusesText text (Parse fault line) = (list : Tokens) × Leaves text list
+    × (passes.tokens_left list ≡ Err fault) × (fault ≢ constants.NoMemory)
+RefusesText text (Parse fault line) = (list : Tokens) × LeavesTokens text list
     × RefusesToken list fault line
 RefusesText text (Types fault) = RefusesTrees text fault
 RefusesText text NoMemory = ⊤

@@ -4,7 +4,7 @@
 ghost use Rattle.std.specs.Prelude.{◌≡◌, ◌≤◌, [], Ok, IfOk, IfErr, length};
 ghost use Rattle.c_lexer.specs.Cuts.{answer};
 ghost use Rattle.c_lexer.specs.TokenList.{line_at};
-ghost use Rattle.c_constants.specs.Left.{Leaves};
+ghost use Rattle.c_constants.specs.Left.{LeavesTokens};
 ghost use Rattle.c_constants.specs.Passes as passes;
 ghost use Rattle.c_types.specs.Fault.{breaks};
 ghost use Rattle.cnvm_compile.specs.FrontEnd.{IsTree, AcceptsText, RefusesText};
@@ -26,7 +26,7 @@ pub enum ProgramFault {
     Lex(LexFault),
     /// Its constants have no values.
     Constants(ConstFault),
-    /// The tokens that its constants leave have no tree. The number is the line of the refused token.
+    /// The tokens that its constants leave have no tree. The number is the refused token's line.
     Parse(ParseFault, u64),
     /// Its tree breaks a typing rule.
     Types(TypeFault),
@@ -48,7 +48,7 @@ pub(crate) fn typed_of(alloc: Global, text: &[u8]) -> Result<Typed, ProgramFault
 /// The tokens that the constants of a text leave.
 #[tactic(auto, using(crate::proofs::Trees::listed))]
 fn list_of(alloc: Global, text: &[u8]) -> Result<TokenList, ProgramFault>
-    ensures ok { IfOk result (λ list. Leaves text.now list) }
+    ensures ok { IfOk result (λ list. LeavesTokens text.now list) }
     ensures err { IfErr result (λ fault. RefusesText text.now fault) }
 {
     let all = tokens_of(alloc, text)?;
@@ -69,7 +69,7 @@ fn tokens_of(alloc: Global, text: &[u8]) -> Result<TokenList, ProgramFault>
 
 /// The tokens that the constants of a list leave.
 fn left_of(alloc: Global, all: &TokenList) -> Result<TokenList, ProgramFault>
-    ensures ok { IfOk result (λ list. passes.answer all.now ≡ Ok list) }
+    ensures ok { IfOk result (λ list. passes.tokens_left all.now ≡ Ok list) }
     ensures err { IfErr result (λ fault. RefusesConstants all.now fault) }
 {
     match constants(alloc, all) {

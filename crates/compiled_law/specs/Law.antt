@@ -4,7 +4,7 @@
 -- stores are more than the log has records.
 use Rattle.std.specs.Prelude.{◌≡◌, ℕ, ℤ, Bool, List, [], length, map}
 use Rattle.c_lexer.specs.TokenList.{Tokens}
-use Rattle.c_constants.specs.Left.{Leaves}
+use Rattle.c_constants.specs.Left.{LeavesTokens}
 use Rattle.c_tree.specs.ItemSpelling.{SpellsProgram}
 use Rattle.c_tree.specs.Program.{tree_of}
 use Rattle.c_types.specs.Fault.{breaks}
@@ -24,10 +24,10 @@ use Rattle.session_law.specs.Source.{ComesBy}
 use Rattle.session_law.specs.Agrees.{Agrees}
 
 -- What the compiler makes of a text: the tree of the tokens that its constants leave, which breaks
--- no rule, and the image of its code for a pool with the root's words. The code has its logs exactly
--- at the sites for which the walks call.
+-- no rule, and the image of its code for a pool with the root's words. The code has its logs
+-- exactly at the sites for which the walks call.
 pub record IsCompiledFrom (text : List ℕ) (list : Tokens) (program : Program) : Type 0 where
-  pub left : Leaves text list
+  pub left : LeavesTokens text list
   pub spelled : SpellsProgram list.tokens (tree_of program.typed)
   pub lines : program.typed.lines ≡ map (λ placed. placed.line) list.tokens
   pub checked : breaks program.typed ≡ []

@@ -11,7 +11,7 @@ use Rattle.c_lexer.specs.declared.fault.LexFault.{LexFault}
 use Rattle.c_lexer.specs.declared.fault.LexFault.TheVariants as lex
 use Rattle.c_constants.specs.declared.fault.ConstFault.{ConstFault}
 use Rattle.c_constants.specs.declared.fault.ConstFault.TheVariants as constants
-use Rattle.c_constants.specs.Left.{Leaves}
+use Rattle.c_constants.specs.Left.{LeavesTokens}
 use Rattle.c_constants.specs.Passes as passes
 use Rattle.c_parser.specs.Exact.{LightBefore, NoneBegins, SomeBegins, SomeSinks}
 use Rattle.c_parser.specs.Weight.{spelled_weights}
@@ -21,7 +21,7 @@ use Rattle.c_tree.specs.Program.{Program, tree_of}
 use Rattle.c_types.specs.declared.fault.TypeFault.{TypeFault}
 use Rattle.c_types.specs.declared.fault.TypeFault.TheVariants as fault
 use Rattle.c_types.specs.Fault.{breaks, refusal}
-use Rattle.program_notes.specs.RefusedAt.{ReadsAs, RefusedAt, RefusesConstants, Tells}
+use Rattle.program_notes.specs.RefusedAt.{ReadsAs, RefusedAt, RefusesConstantsAt, Tells}
 use Rattle.program_notes.specs.RefusedAt.{Byte, Number, Comment, Constant, Syntax, Deep, Rule}
 use Rattle.program_notes.specs.RefusedAt.{Long, LongLeft, Nothing, AtPlace, constant_start}
 use Rattle.program_notes.specs.RefusedAt.{rule_place}
@@ -57,14 +57,14 @@ long path text message what is begins = Long message what is begins
 
 -- a refusal of the constants is want of memory, or the text's own
 abbrev ConstantsRefuse : List ℕ → ConstFault → Type 0
-ConstantsRefuse text f = (f ≡ constants.NoMemory) ⊎ RefusesConstants text f
+ConstantsRefuse text f = (f ≡ constants.NoMemory) ⊎ RefusesConstantsAt text f
 
 pub constants_left : (text : List ℕ) (all list : Tokens) → answer text ≡ Ok all
-    → passes.answer all ≡ Ok list → Leaves text list
+    → passes.tokens_left all ≡ Ok list → LeavesTokens text list
 constants_left text all list cut left = record { all = all; cut = cut; left = left }
 
 pub constants_refused : (text : List ℕ) (all : Tokens) (f : ConstFault) → answer text ≡ Ok all
-    → (f ≡ constants.NoMemory) ⊎ (passes.answer all ≡ Err f) → ConstantsRefuse text f
+    → (f ≡ constants.NoMemory) ⊎ (passes.tokens_left all ≡ Err f) → ConstantsRefuse text f
 constants_refused text all f cut (inl e) = inl e
 constants_refused text all f cut (inr told) =
     inr (record { all = all; cut = cut; told = told })
@@ -72,11 +72,11 @@ constants_refused text all f cut (inr told) =
 pub ruleset of_constants = (constants_left, constants_refused)
 
 pub long_left_refused : (text : List ℕ) → ConstantsRefuse text constants.TooLong
-    → RefusesConstants text constants.TooLong
+    → RefusesConstantsAt text constants.TooLong
 long_left_refused text (inl e) = let no : ⊥ = cc in absurd no
 long_left_refused text (inr is) = is
 
-pub long_left : (path text message what : List ℕ) → RefusesConstants text constants.TooLong
+pub long_left : (path text message what : List ℕ) → RefusesConstantsAt text constants.TooLong
     → message ≡ file_head path what → Tells path text (Some message)
 long_left path text message what is begins = LongLeft message what is begins
 
@@ -124,17 +124,17 @@ min_within a b = min-le_right a b
 
 pub ruleset start = (start_min, min_within)
 
-pub syntax_refused : (text : List ℕ) (list : Tokens) (t : ℕ) → Leaves text list
+pub syntax_refused : (text : List ℕ) (list : Tokens) (t : ℕ) → LeavesTokens text list
     → NoneBegins list.tokens (t + 1) → SomeBegins list.tokens t
     → RefusedAt text (start_at list t)
 syntax_refused text list t left none some = Syntax list t left none some
 
-pub deep_refused : (text : List ℕ) (list : Tokens) (t : ℕ) → Leaves text list
+pub deep_refused : (text : List ℕ) (list : Tokens) (t : ℕ) → LeavesTokens text list
     → SomeSinks list.tokens t → RefusedAt text (start_at list t)
 deep_refused text list t left some = Deep list t left some
 
 -- what `parse` promises of a tree
-pub reads : (text : List ℕ) (list : Tokens) (tree : Program) → Leaves text list
+pub reads : (text : List ℕ) (list : Tokens) (tree : Program) → LeavesTokens text list
     → SpellsProgram list.tokens (tree_of tree)
     → ((xs : List ItemTree) (spelled : SpellsProgram list.tokens xs)
     → LightBefore (spelled_weights spelled) (length list.tokens))

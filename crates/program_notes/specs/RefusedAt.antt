@@ -5,7 +5,7 @@ use Rattle.c_lexer.specs.TokenList.{Tokens, start_at}
 use Rattle.c_lexer.specs.declared.fault.LexFault.TheVariants as lex
 use Rattle.c_constants.specs.declared.fault.ConstFault.{ConstFault}
 use Rattle.c_constants.specs.declared.fault.ConstFault.TheVariants as constants
-use Rattle.c_constants.specs.Left.{Leaves}
+use Rattle.c_constants.specs.Left.{LeavesTokens}
 use Rattle.c_constants.specs.Passes as passes
 use Rattle.c_parser.specs.Exact.{LightBefore, NoneBegins, SomeBegins, SomeSinks}
 use Rattle.c_parser.specs.Weight.{spelled_weights}
@@ -40,32 +40,32 @@ constant_start constants.TooLong = None
 constant_start constants.NoMemory = None
 
 -- the text's constants are refused for this
-pub record RefusesConstants (text : List ℕ) (f : ConstFault) : Type 0 where
+pub record RefusesConstantsAt (text : List ℕ) (f : ConstFault) : Type 0 where
   pub all : Tokens
   pub cut : answer text ≡ Ok all
-  pub told : passes.answer all ≡ Err f
+  pub told : passes.tokens_left all ≡ Err f
 
 -- the constants of the text leave these tokens, and the parser gives this tree for them
 pub record ReadsAs (text : List ℕ) (list : Tokens) (tree : Program) : Type 0 where
-  pub left : Leaves text list
+  pub left : LeavesTokens text list
   pub spelled : SpellsProgram list.tokens (tree_of tree)
   pub light : LightBefore (spelled_weights spelled) (length list.tokens)
   pub lines : tree.lines ≡ map (λ placed. placed.line) list.tokens
 
 -- The text is refused at the byte that has n bytes before it: a byte that begins no token, a run
--- that is no number, a comment that is never closed; a token of a definition of constants; the first
--- token with which no program begins, or the first that stands too deep; or the token at which the
--- reported rule is broken.
+-- that is no number, a comment that is never closed; a token of a definition of constants; the
+-- first token with which no program begins, or the first that stands too deep; or the token at
+-- which the reported rule is broken.
 pub data RefusedAt (text : List ℕ) : ℕ → Type 0 where
   Byte : (line start : ℕ) → answer text ≡ Err (lex.BadByte line start) → RefusedAt text start
   Number : (line start : ℕ) → answer text ≡ Err (lex.BadNumber line start) → RefusedAt text start
   Comment : (line start : ℕ) → answer text ≡ Err (lex.OpenComment line start)
       → RefusedAt text start
-  Constant : (f : ConstFault) (start : ℕ) → RefusesConstants text f → constant_start f ≡ Some start
-      → RefusedAt text start
-  Syntax : (list : Tokens) (t : ℕ) → Leaves text list → NoneBegins list.tokens (t + 1)
+  Constant : (f : ConstFault) (start : ℕ) → RefusesConstantsAt text f
+      → constant_start f ≡ Some start → RefusedAt text start
+  Syntax : (list : Tokens) (t : ℕ) → LeavesTokens text list → NoneBegins list.tokens (t + 1)
       → SomeBegins list.tokens t → RefusedAt text (start_at list t)
-  Deep : (list : Tokens) (t : ℕ) → Leaves text list → SomeSinks list.tokens t
+  Deep : (list : Tokens) (t : ℕ) → LeavesTokens text list → SomeSinks list.tokens t
       → RefusedAt text (start_at list t)
   Rule : (list : Tokens) (tree : Program) (f : TypeFault) → ReadsAs text list tree
       → refusal tree ≡ Some f → RefusedAt text (start_at list (rule_place f))
@@ -90,7 +90,7 @@ pub record TellsPlace (path text message : List ℕ) : Type 0 where
 pub data Tells (path text : List ℕ) : Option (List ℕ) → Type 0 where
   Long : (message what : List ℕ) → answer text ≡ Err lex.TooLong → message ≡ file_head path what
       → Tells path text (Some message)
-  LongLeft : (message what : List ℕ) → RefusesConstants text constants.TooLong
+  LongLeft : (message what : List ℕ) → RefusesConstantsAt text constants.TooLong
       → message ≡ file_head path what → Tells path text (Some message)
   AtPlace : (message : List ℕ) → TellsPlace path text message → Tells path text (Some message)
   Nothing : IsAccepted text → Tells path text None

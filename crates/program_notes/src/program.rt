@@ -5,9 +5,9 @@ ghost use Rattle.std.specs.Prelude.{IfSome};
 ghost use Rattle.std.specs.Prelude.{option_map, string_bytes};
 ghost use Rattle.c_lexer.specs.Cuts.{answer};
 ghost use Rattle.c_lexer.specs.TokenList.{start_at};
-ghost use Rattle.c_constants.specs.Left.{Leaves};
+ghost use Rattle.c_constants.specs.Left.{LeavesTokens};
 ghost use Rattle.c_constants.specs.Passes as passes;
-ghost use Rattle.program_notes.specs.RefusedAt.{ReadsAs, RefusedAt, RefusesConstants, Tells};
+ghost use Rattle.program_notes.specs.RefusedAt.{ReadsAs, RefusedAt, RefusesConstantsAt, Tells};
 ghost use Rattle.program_notes.specs.RefusedAt.{constant_start, rule_place};
 ghost use Rattle.c_types.specs.Fault.{breaks, refusal};
 
@@ -127,9 +127,9 @@ fn of_constants(
 }
 
 fn left_of(alloc: Global, all: &TokenList) -> Result<TokenList, ConstFault>
-    ensures ok { IfOk result (λ list. passes.answer all.now ≡ Ok list) }
+    ensures ok { IfOk result (λ list. passes.tokens_left all.now ≡ Ok list) }
     ensures err { IfErr result (λ fault. (fault ≡ ConstFault.NoMemory)
-        ⊎ (passes.answer all.now ≡ Err fault)) }
+        ⊎ (passes.tokens_left all.now ≡ Err fault)) }
 {
     constants(alloc, all)
 }
@@ -141,7 +141,7 @@ fn by_constants(
     text: &[u8],
     fault: ConstFault,
 ) -> Result<Option<String>, AllocError>
-    requires { (fault ≡ ConstFault.NoMemory) ⊎ RefusesConstants text.now fault }
+    requires { (fault ≡ ConstFault.NoMemory) ⊎ RefusesConstantsAt text.now fault }
     ensures tells { IfOk result (λ note. Tells path.now text.now (option_map string_bytes note)) }
 {
     match fault {
@@ -160,7 +160,7 @@ fn long_left(
     text: &[u8],
     what: &str,
 ) -> Result<Option<String>, AllocError>
-    requires { RefusesConstants text.now ConstFault.TooLong }
+    requires { RefusesConstantsAt text.now ConstFault.TooLong }
     ensures tells { IfOk result (λ note. Tells path.now text.now (option_map string_bytes note)) }
 {
     let message = message_of_file(alloc, path, what)?;
@@ -174,7 +174,7 @@ fn at_constant(
     text: &[u8],
     fault: ConstFault,
 ) -> Result<Option<String>, AllocError>
-    requires { (fault ≡ ConstFault.NoMemory) ⊎ RefusesConstants text.now fault }
+    requires { (fault ≡ ConstFault.NoMemory) ⊎ RefusesConstantsAt text.now fault }
     ensures tells { IfOk result (λ note. Tells path.now text.now (option_map string_bytes note)) }
 {
     let Some(start) = constant_start(fault) else {
@@ -297,7 +297,7 @@ fn of_tokens(
     text: &[u8],
     list: &TokenList,
 ) -> Result<Option<String>, AllocError>
-    requires { Leaves text.now list.now }
+    requires { LeavesTokens text.now list.now }
     ensures tells { IfOk result (λ note. Tells path.now text.now (option_map string_bytes note)) }
 {
     let words = spelled(alloc, text, list)?;

@@ -74,14 +74,16 @@ const TEXTS: [(&str, &str); 42] = [
     ("a&&=b|||=c", "1: a AndAnd Assign b OrOr OrAssign c end"),
     (
         "*=/=%=&=^=|=<<=>>=",
-        "1: MulAssign DivAssign RemAssign AndAssign XorAssign OrAssign ShiftLeftAssign ShiftRightAssign end",
+        "1: MulAssign DivAssign RemAssign AndAssign XorAssign OrAssign ShiftLeftAssign \
+            ShiftRightAssign end",
     ),
     ("a<=>=b", "1: a LessEqual GreaterEqual b end"),
     ("===!==", "1: Equal Assign NotEqual Assign end"),
     ("&&&|||^~!", "1: AndAnd And OrOr Or Xor Tilde Not end"),
     (
         "+=-=+-*/%.,;(){}[]",
-        "1: AddAssign SubAssign Plus Minus Star Slash Percent Dot Comma Semicolon OpenRound CloseRound OpenBrace CloseBrace OpenSquare CloseSquare end",
+        "1: AddAssign SubAssign Plus Minus Star Slash Percent Dot Comma Semicolon OpenRound \
+            CloseRound OpenBrace CloseBrace OpenSquare CloseSquare end",
     ),
     (
         "0 7 10 9223372036854775807",
@@ -98,12 +100,18 @@ const TEXTS: [(&str, &str); 42] = [
         "1: _ _a a_1 A9 tx_ xtx int64_t1 end",
     ),
     (
-        "int64_t void struct enum persistent root tx if else while do for break continue return NULL pm_new pm_free abort",
-        "1: [Int64] [Void] [Struct] [Enum] [Persistent] [Root] [Tx] [If] [Else] [While] [Do] [For] [Break] [Continue] [Return] [Null] [PmNew] [PmFree] [Abort] end",
+        "int64_t void struct enum persistent root tx if else while do for break continue return \
+            NULL pm_new pm_free abort",
+        "1: [Int64] [Void] [Struct] [Enum] [Persistent] [Root] [Tx] [If] [Else] [While] [Do] \
+            [For] [Break] [Continue] [Return] [Null] [PmNew] [PmFree] [Abort] end",
     ),
     (
-        "auto case char const default double extern float goto inline int long register restrict short signed sizeof static switch typedef union unsigned volatile null main",
-        "1: [reserved] [reserved] [reserved] [reserved] [reserved] [reserved] [reserved] [reserved] [reserved] [reserved] [reserved] [reserved] [reserved] [reserved] [reserved] [reserved] [reserved] [reserved] [reserved] [reserved] [reserved] [reserved] [reserved] null main end",
+        "auto case char const default double extern float goto inline int long register restrict \
+            short signed sizeof static switch typedef union unsigned volatile null main",
+        "1: [reserved] [reserved] [reserved] [reserved] [reserved] [reserved] [reserved] \
+            [reserved] [reserved] [reserved] [reserved] [reserved] [reserved] [reserved] \
+            [reserved] [reserved] [reserved] [reserved] [reserved] [reserved] [reserved] \
+            [reserved] [reserved] null main end",
     ),
     ("a // b\nc", "1: a 2: c end"),
     ("a // b", "1: a end"),
@@ -129,7 +137,10 @@ const TEXTS: [(&str, &str); 42] = [
         "struct R { int64_t n; };\n\
          persistent struct R root;\n\
          tx int64_t inc(int64_t d) { root.n = root.n + d; return root.n; }\n",
-        "1: [Struct] R OpenBrace [Int64] n Semicolon CloseBrace Semicolon 2: [Persistent] [Struct] R [Root] Semicolon 3: [Tx] [Int64] inc OpenRound [Int64] d CloseRound OpenBrace [Root] Dot n Assign [Root] Dot n Plus d Semicolon [Return] [Root] Dot n Semicolon CloseBrace 4: end",
+        "1: [Struct] R OpenBrace [Int64] n Semicolon CloseBrace Semicolon 2: [Persistent] \
+            [Struct] R [Root] Semicolon 3: [Tx] [Int64] inc OpenRound [Int64] d CloseRound \
+            OpenBrace [Root] Dot n Assign [Root] Dot n Plus d Semicolon [Return] [Root] Dot n \
+            Semicolon CloseBrace 4: end",
     ),
 ];
 

@@ -2,7 +2,7 @@
 use Rattle.std.specs.Prelude.{◌≡◌, ◌≢◌, Some, Err, ⊤}
 use Rattle.c_lexer.specs.TokenList.{Tokens}
 use Rattle.c_constants.specs.declared.fault.ConstFault.TheVariants as constants
-use Rattle.c_constants.specs.Passes.{answer}
+use Rattle.c_constants.specs.Passes.{tokens_left}
 use Rattle.c_tree.specs.Program.{Program, tree_of}
 use Rattle.c_types.specs.Fault.{refusal}
 use Rattle.cnvm_compile.specs.declared.front_end.ProgramFault.{ProgramFault}
@@ -16,7 +16,8 @@ IsOnlyTree list tree = (other : Program) → IsTree list other → tree_of tree 
 
 -- how the constants of a list of tokens are refused; want of memory says nothing of the list
 abbrev pub RefusesConstants : Tokens → ProgramFault → Type 0
-RefusesConstants list (Constants fault) = (answer list ≡ Err fault) × (fault ≢ constants.NoMemory)
+RefusesConstants list (Constants fault) =
+    (tokens_left list ≡ Err fault) × (fault ≢ constants.NoMemory)
 RefusesConstants list NoMemory = ⊤
 RefusesConstants list (Lex fault) = ⊥
 RefusesConstants list (Parse fault line) = ⊥

@@ -26,7 +26,7 @@ use Rattle.c_lexer.specs.Words.{spelled_by, word_spelled, is_never_accepted}
 use Rattle.c_lexer.specs.declared.token.Token.{Token}
 use Rattle.c_lexer.specs.declared.token.Token.TheVariants as token
 use Rattle.c_constants.specs.Laws.{IsWordToken, AreWordTokens, AreInRange}
-use Rattle.c_constants.specs.Left.{Leaves}
+use Rattle.c_constants.specs.Left.{LeavesTokens}
 use Rattle.c_constants.proofs.Leaving.{left}
 use Rattle.c_tree.specs.Kinds.{placed_value, value_at}
 
@@ -171,13 +171,13 @@ answer_words text list e = by_bytes (nat_lt 262144 (length text)) e
     by_bytes false e = by_count (nat_lt 16384 (length (cut text).tokens)) (cut text)
         (cut_words 0 text_start text) e
 
-left_in_range : (text : List ℕ) (list : Tokens) → Leaves text list → AreInRange list.tokens
+left_in_range : (text : List ℕ) (list : Tokens) → LeavesTokens text list → AreInRange list.tokens
 left_in_range text list is = left is.all list (answer_words text is.all is.cut) is.left
 
-pub left_few : (text : List ℕ) (list : Tokens) → Leaves text list → length list.tokens ≤ 16384
+pub left_few : (text : List ℕ) (list : Tokens) → LeavesTokens text list → length list.tokens ≤ 16384
 left_few text list is = (left_in_range text list is).few
 
 -- the number at a place
-pub left_word : (text : List ℕ) (list : Tokens) → Leaves text list → (i : ℕ)
+pub left_word : (text : List ℕ) (list : Tokens) → LeavesTokens text list → (i : ℕ)
     → IsWord (value_at list.tokens i)
 left_word text list is i = value_word list.tokens i (left_in_range text list is).words

@@ -5,7 +5,7 @@ use Rattle.std.specs.Prelude.{◌≡◌, ◌≤◌, ◌+◌, ℕ, List, [], ◌�
 use Rattle.std.specs.Prelude.{slice_get}
 use Rattle.c_lexer.specs.declared.token.Placed.{Placed}
 use Rattle.c_lexer.specs.TokenList.{Tokens}
-use Rattle.c_constants.specs.Left.{Leaves}
+use Rattle.c_constants.specs.Left.{LeavesTokens}
 use Rattle.c_tree.specs.ItemSpelling.{SpellsProgram}
 use Rattle.c_tree.specs.Program.{Program, tree_of}
 use Rattle.pool_map.specs.declared.shapes.StructShape.{StructShape}
@@ -61,7 +61,7 @@ LimitsLaw = (tree : Program) → breaks tree ≡ [] → FunctionsAreFew (lowered
 -- The constants of the code of a program's text are words, since the numbers of a text are, and the
 -- values of the constants that it defines.
 abbrev pub ConstantsLaw : Type 0
-ConstantsLaw = (text : List ℕ) (list : Tokens) (tree : Program) → Leaves text list
+ConstantsLaw = (text : List ℕ) (list : Tokens) (tree : Program) → LeavesTokens text list
     → SpellsProgram list.tokens (tree_of tree) → HasWordConstants (lowered tree).functions
 
 -- the functions of code that are marked as transactions

@@ -55,8 +55,8 @@ add_do-returns t c =
     (expr_of c.args.condition.now) _ _ _ _ _ _ _ _ _ _ _ _ _
     c.end-top.ensures.place c.in_ok-add_body.ensures c.end-again.ensures.place
     c.end-again.ensures.small c.fill.ensures c.in_ok-push.ensures c.in_ok-on.ensures
-    c.end-place.ensures.place c.end-place.ensures.small c.in_ok-push-2.ensures c.in_ok-push-3.ensures
-    c.fill-2.ensures
+    c.end-place.ensures.place c.end-place.ensures.small c.in_ok-push-2.ensures
+    c.in_ok-push-3.ensures c.fill-2.ensures
 
 pub add_block-returns : goal.add_block-returns
 add_block-returns t c =
