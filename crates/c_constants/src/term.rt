@@ -232,13 +232,8 @@ fn read_bracket(
     if room == 0 {
         return Err(too_deep(tokens, place));
     }
-    match read_whole(
-        tokens,
-        constants,
-        LOOSEST,
-        room - 1,
-        next_place(tokens, place),
-    ) {
+    let next = next_place(tokens, place);
+    match read_whole(tokens, constants, LOOSEST, room - 1, next) {
         Err(fault) => Err(fault),
         Ok(term) => closed(tokens, room, term),
     }
@@ -344,14 +339,9 @@ fn right_side(
     ensures onward { IfOk result (λ t. left.place ≤ t.place) }
     ensures inside { IfOk result (λ t. t.place ≤ length tokens.now.tokens) }
 {
+    let tighter = constant_level(op) - 1;
     let next = next_place(tokens, left.place);
-    match read_whole(
-        tokens,
-        constants,
-        constant_level(op) - 1,
-        left.room - 1,
-        next,
-    ) {
+    match read_whole(tokens, constants, tighter, left.room - 1, next) {
         Err(fault) => Err(fault),
         Ok(right) => match joined(tokens, op, left, right) {
             Err(fault) => Err(fault),

@@ -16,9 +16,8 @@ use Rattle.c_types.specs.Tables.{Tables, function_named, number_at, pointed_stru
 use Rattle.c_types.specs.Shapes.{shapes_in}
 use Rattle.c_types.specs.Expressions as types
 use Rattle.c_types.specs.Expressions.{Scope, variable_type, kind_of, type_of, broken_in}
-use Rattle.c_types.specs.Expressions.{broken_in_all, value_broken, with_unindexed, call_broken}
-use Rattle.c_types.specs.Expressions.{parameters_of, parameter_type, argument_count, root_broken}
-use Rattle.c_types.specs.Expressions.{arrow_broken, pointer_broken}
+use Rattle.c_types.specs.Expressions.{broken_in_all, value_broken, call_broken, parameters_of}
+use Rattle.c_types.specs.Expressions.{parameter_type, argument_count, root_broken, arrow_broken}
 use Rattle.c_types.specs.Statements.{is_target}
 use Rattle.c_types.proofs.Unbroken.{none_left, none_right, holds}
 use Rattle.pool_map.specs.declared.shapes.Shapes.{Shapes}

@@ -6,7 +6,7 @@ use Rattle.nvm_base.specs.declared.op.BinOp.TheVariants as op
 use Rattle.nvm_base.specs.Operations as word
 use Rattle.c_tree.specs.declared.expr.UnaryOp.TheVariants as unary
 use Rattle.c_tree.specs.ExprTree as expr
-use Rattle.c_tree.specs.ExprTree.{ExprTree, Arguments, Ident}
+use Rattle.c_tree.specs.ExprTree.{ExprTree, Arguments}
 use Rattle.c_tree.specs.ItemTree.{FunctionTree}
 use Rattle.pool_map.specs.PoolMap.{PoolMap}
 use Rattle.pool_map.specs.declared.trap.TrapKind.TheVariants as trap

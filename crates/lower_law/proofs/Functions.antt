@@ -26,10 +26,9 @@ use Rattle.lower.specs.Lowers.{Context, statements_end, statements_code}
 use Rattle.lower.specs.Program.{parameters_end, parameters_code, variables_after_parameters}
 use Rattle.lower.specs.Program.{no_variables, function_code, context_at, lowered_function, lowered}
 use Rattle.code_meaning.specs.Code as code
-use Rattle.code_meaning.specs.Code.{Frame, frame, CodeState, Here, Ended, Trapped, Unfinished}
-use Rattle.code_meaning.specs.Code.{Stuck, Goes, Ends, gives, register_at, put_register, act}
-use Rattle.code_meaning.specs.Code.{instruction_step, go_on, exec, opens, open_limit, IsOver}
-use Rattle.code_meaning.specs.Code.{code_start, Means}
+use Rattle.code_meaning.specs.Code.{Frame, frame, CodeState, Here, Ended, Trapped, Goes, Ends}
+use Rattle.code_meaning.specs.Code.{gives, register_at, put_register, act, instruction_step, exec}
+use Rattle.code_meaning.specs.Code.{opens, IsOver, code_start}
 use Rattle.code_meaning.proofs.More.{end}
 use Rattle.code_meaning.proofs.Registers.{at_put_same}
 use Rattle.code_meaning.specs.Whole.{whole}

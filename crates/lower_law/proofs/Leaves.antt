@@ -10,7 +10,7 @@ use Rattle.std.proofs.lemmas.Option.{same_Some}
 use Rattle.nvm_base.proofs.Lists.{all_append}
 use Rattle.c_tree.specs.declared.expr.UnaryOp.TheVariants as unary
 use Rattle.c_tree.specs.ExprTree as expr
-use Rattle.c_tree.specs.ExprTree.{ExprTree, Arguments, Ident}
+use Rattle.c_tree.specs.ExprTree.{ExprTree, Arguments}
 use Rattle.c_tree.specs.StmtTree.{InitialTree}
 use Rattle.ir.specs.declared.instruction.Instruction.{Instruction}
 use Rattle.lower.specs.declared.form.Form.{Form}

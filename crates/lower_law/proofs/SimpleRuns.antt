@@ -13,10 +13,9 @@ use Rattle.c_tree.specs.declared.stmt.UpdateOp.TheVariants as updating
 use Rattle.c_tree.specs.declared.stmt.StepOp.TheVariants as stepping
 use Rattle.c_tree.specs.Operators.{update_binary}
 use Rattle.c_tree.specs.ExprTree as expr
-use Rattle.c_tree.specs.ExprTree.{ExprTree, Arguments, Ident}
+use Rattle.c_tree.specs.ExprTree.{ExprTree, Ident}
 use Rattle.c_tree.specs.StmtTree as stmt
-use Rattle.c_tree.specs.StmtTree.{StmtTree, Statements, SimpleTree, FirstTree, DeclarationTree}
-use Rattle.c_tree.specs.StmtTree.{InitialTree}
+use Rattle.c_tree.specs.StmtTree.{SimpleTree, DeclarationTree, InitialTree}
 use Rattle.c_tree.specs.Program.{source_line}
 use Rattle.c_types.specs.Tables.{declared_type, pointed_struct}
 use Rattle.c_types.specs.Expressions.{type_of}
@@ -26,12 +25,9 @@ use Rattle.c_meaning.specs.Locals.{Local, value_named, assigned, local_declared 
 use Rattle.c_meaning.specs.Operators.{binary_of}
 use Rattle.c_meaning.specs.Access.{word_named, target_field, free_object}
 use Rattle.c_meaning.specs.Meaning as meaning
-use Rattle.c_meaning.specs.Meaning.{Out, Got, Stops, StmtEnd, Next, Broke, Again, Gave, Traps}
-use Rattle.c_meaning.specs.Meaning.{Calls, then_do, with_value, then_next, or_trap, loaded, at_zero}
+use Rattle.c_meaning.specs.Meaning.{Got, Next, Calls, then_do, with_value, or_trap, loaded}
 use Rattle.c_meaning.specs.Meaning.{value_of, pointer_of, operands_of, stored_end, assign_to}
-use Rattle.c_meaning.specs.Meaning.{update, target_local, freed, declaration_end, condition_of}
-use Rattle.c_meaning.specs.Meaning.{placed_trap, at_target, at_place, located}
-use Rattle.c_meaning.specs.Meaning.{return_end, in_scope, after_turn, turns, end_of_stmt, ends_of}
+use Rattle.c_meaning.specs.Meaning.{update, freed, placed_trap, at_target, at_place, located}
 use Rattle.ir.specs.declared.instruction.Target.{Target}
 use Rattle.ir.specs.declared.instruction.Instruction.{Instruction}
 use Rattle.ir.specs.declared.instruction.Instruction.TheVariants.{Copy, Bin, Load, Store, Free}

@@ -4,17 +4,13 @@ use Rattle.std.proofs.Common.{◌∙◌, subst, arith, append_assoc}
 use Rattle.std.specs.Prelude.{Option, None, Some}
 use Rattle.c_tree.specs.ExprTree.{ExprTree}
 use Rattle.c_tree.specs.StmtTree as stmt
-use Rattle.c_tree.specs.StmtTree.{StmtTree, Statements, SimpleTree, FirstTree, DeclarationTree}
-use Rattle.c_tree.specs.StmtTree.{InitialTree}
+use Rattle.c_tree.specs.StmtTree.{StmtTree, Statements, FirstTree, DeclarationTree, InitialTree}
 use Rattle.c_types.specs.Tables.{declared_type}
 use Rattle.pool_map.specs.PoolMap.{PoolMap}
 use Rattle.c_meaning.specs.Locals.{Local}
 use Rattle.c_meaning.specs.Meaning as meaning
-use Rattle.c_meaning.specs.Meaning.{Out, Got, Stops, StmtEnd, Next, Broke, Again, Gave, Traps}
-use Rattle.c_meaning.specs.Meaning.{Calls, then_do, with_value, then_next, or_trap, loaded, at_zero}
-use Rattle.c_meaning.specs.Meaning.{value_of, pointer_of, operands_of, stored_end, assign_to}
-use Rattle.c_meaning.specs.Meaning.{update, target_local, freed, declaration_end, condition_of}
-use Rattle.c_meaning.specs.Meaning.{return_end, in_scope, after_turn, turns, end_of_stmt, ends_of}
+use Rattle.c_meaning.specs.Meaning.{Out, StmtEnd, Next, Gave, Calls, then_next, at_zero, value_of}
+use Rattle.c_meaning.specs.Meaning.{condition_of, in_scope, turns, end_of_stmt, ends_of}
 use Rattle.ir.specs.declared.instruction.Instruction.{Instruction}
 use Rattle.ir.specs.declared.instruction.Instruction.TheVariants.{Jump, Branch, Return, Tick}
 use Rattle.ir.specs.declared.function.Ir.{Ir}

@@ -3,8 +3,8 @@ use Rattle.std.proofs.Common.{◌≡◌, ℕ, zero, suc, ◌+◌, ◌<◌, ◌�
 use Rattle.std.proofs.Common.{arith, zero-add}
 use Rattle.std.specs.Prelude.{Option, None, Some, Result, Ok, Err, if◌then◌else◌, option_map}
 use Rattle.c_tree.specs.ExprTree as expr
-use Rattle.c_tree.specs.ExprTree.{ExprTree, Arguments, Ident}
-use Rattle.pool_map.specs.PoolMap.{PoolMap, object_at, write}
+use Rattle.c_tree.specs.ExprTree.{ExprTree, Ident}
+use Rattle.pool_map.specs.PoolMap.{PoolMap}
 use Rattle.pool_map.specs.declared.trap.TrapKind.{TrapKind}
 use Rattle.pool_map.specs.declared.word.PoolWord.{PoolWord}
 use Rattle.pool_map.specs.declared.word.PoolWord.TheVariants.{Root, Field}

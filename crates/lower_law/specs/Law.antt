@@ -1,6 +1,6 @@
 -- Lowering keeps the meaning: the code of a tree that breaks no rule does what the tree means.
-use Rattle.std.specs.Prelude.{◌≡◌, ℕ, zero, suc, ◌+◌, ◌*◌, ℤ, List, [], ◌∷◌, length, Option, None}
-use Rattle.std.specs.Prelude.{Some, slice_get, if◌then◌else◌}
+use Rattle.std.specs.Prelude.{◌≡◌, ℕ, zero, suc, ◌+◌, ◌*◌, ℤ, List, [], ◌∷◌, Option, None, Some}
+use Rattle.std.specs.Prelude.{slice_get, if◌then◌else◌}
 use Rattle.c_tree.specs.ItemTree.{FunctionTree}
 use Rattle.c_tree.specs.Program.{Program, tree_of}
 use Rattle.c_types.specs.Tables.{Tables, tables_of}

@@ -6,7 +6,7 @@ use Rattle.std.specs.Option.{option_map_or}
 use Rattle.std.proofs.lemmas.Option.{none-some, same_Some}
 use Rattle.c_tree.specs.ExprTree.{ExprTree}
 use Rattle.c_tree.specs.ExprTree as expr
-use Rattle.c_tree.specs.StmtTree.{SimpleTree, InitialTree, DeclarationTree}
+use Rattle.c_tree.specs.StmtTree.{SimpleTree, InitialTree}
 use Rattle.c_tree.specs.StmtTree as stmt
 use Rattle.c_tree.specs.ItemTree.{FunctionTree}
 use Rattle.c_tree.specs.declared.expr.BinaryOp.{BinaryOp}

@@ -6,7 +6,7 @@ use Rattle.std.specs.Prelude.{Option, None, Some}
 use Rattle.std.specs.Option.{option_map_or}
 use Rattle.c_tree.specs.ExprTree.{ExprTree}
 use Rattle.c_tree.specs.StmtTree.{StmtTree, Statements, SimpleTree, FirstTree, DeclarationTree}
-use Rattle.c_tree.specs.StmtTree.{TypeTree, InitialTree}
+use Rattle.c_tree.specs.StmtTree.{TypeTree}
 use Rattle.c_tree.specs.StmtTree as stmt
 use Rattle.c_tree.specs.ItemTree.{FunctionTree}
 use Rattle.c_types.specs.Tables.{Tables, declared_type}

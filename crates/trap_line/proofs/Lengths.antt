@@ -20,9 +20,8 @@ use Rattle.lower.specs.Forms.{form_of}
 use Rattle.lower.specs.Names.{Variables, inner_variables, variable_of}
 use Rattle.lower.specs.Assigned.{is_assigned}
 use Rattle.lower.specs.Lowers.{Context, exp_code, exp_end, target_code, target_end, arguments_code}
-use Rattle.lower.specs.Lowers.{arguments_end, form_code, reg_of, or_code, or_end, set_code}
-use Rattle.lower.specs.Lowers.{update_code, update_operation, step_operation, simple_code}
-use Rattle.lower.specs.Lowers.{simple_end, initial_code}
+use Rattle.lower.specs.Lowers.{form_code, reg_of, or_code, or_end, set_code, update_code}
+use Rattle.lower.specs.Lowers.{update_operation, step_operation, simple_code, initial_code}
 use Rattle.lower.specs.Lowers.{first_code, first_end, variables_after_first, third_code, third_end}
 use Rattle.lower.specs.Lowers.{stmt_code, stmt_end, statements_code, statements_end}
 use Rattle.lower.specs.Lowers.{variables_after}

@@ -1,7 +1,7 @@
 -- The line at which a run stopped: that of a token of the instruction in whose code the machine
 -- stands.
-use Rattle.std.specs.Prelude.{ℕ, ◌-◌, Bool, not, List, length, take, Option, None, Some, false}
-use Rattle.std.specs.Prelude.{option_map, option_and_then, slice_get, nat_le}
+use Rattle.std.specs.Prelude.{ℕ, ◌-◌, not, List, length, take, Option, None, Some, false}
+use Rattle.std.specs.Prelude.{option_map, slice_get, nat_le}
 use Rattle.std.specs.List.{filter}
 use Rattle.pool_map.specs.declared.trap.TrapKind.{TrapKind}
 use Rattle.pool_map.specs.declared.shapes.Shapes.{Shapes}

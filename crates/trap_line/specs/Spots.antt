@@ -1,6 +1,6 @@
 -- The tokens of each instruction of a tree's code, in the order of `exp_code` and `stmt_code` of
 -- lower, instruction by instruction: the token at which a trap of that instruction is told.
-use Rattle.std.specs.Prelude.{ℕ, List, [], ◌∷◌, ◌++◌, Option, None, Some, map, if◌then◌else◌}
+use Rattle.std.specs.Prelude.{ℕ, List, [], ◌∷◌, ◌++◌, Option, None, Some, if◌then◌else◌}
 use Rattle.pool_map.specs.declared.trap.TrapKind.{TrapKind}
 use Rattle.pool_map.specs.declared.trap.TrapKind.TheVariants as trap
 use Rattle.c_tree.specs.declared.expr.UnaryOp.TheVariants as unary

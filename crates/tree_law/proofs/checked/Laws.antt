@@ -11,7 +11,7 @@ use Rattle.c_tree.specs.ItemTree.{FunctionTree}
 use Rattle.c_tree.specs.Program.{Program, tree_of}
 use Rattle.pool_map.specs.declared.shapes.StructShape.{StructShape}
 use Rattle.pool_map.specs.PoolFits.{words_of}
-use Rattle.c_types.specs.Tables.{Tables, StructTree, tables_of, root_struct, field_names}
+use Rattle.c_types.specs.Tables.{Tables, StructTree, tables_of, field_names}
 use Rattle.c_types.specs.Tables as counted
 use Rattle.c_types.specs.Statements.{inner_scopes}
 use Rattle.c_types.specs.Fault.{breaks}

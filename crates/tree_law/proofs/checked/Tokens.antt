@@ -3,7 +3,7 @@ use Rattle.std.proofs.Common.{◌≡◌, ℕ, zero, suc, ◌-◌, ◌^◌, ◌�
 use Rattle.std.proofs.Common.{◌∷◌, length, drop, refl, subst, arith}
 use Rattle.std.specs.Prelude.{nat_le, nat_lt, nat_eq, ◌==◌, ◌&&◌, ◌||◌, if◌then◌else◌, slice_index}
 use Rattle.std.specs.Prelude.{codes, Option, None, Some, Result, Ok, Err}
-use Rattle.std.specs.List.{AllByRecursion, list_all, starts_with}
+use Rattle.std.specs.List.{list_all, starts_with}
 use Rattle.std.specs.Char.{is_digit, is_ascii_digit}
 use Rattle.std.specs.Str.Parse.{digits_value_after}
 use Rattle.std.proofs.lemmas.Int.{ints}

@@ -1,4 +1,4 @@
-use Rattle.std.proofs.Common.{◌≡◌, ◌∙◌, ◌+◌, ap, append_assoc}
+use Rattle.std.proofs.Common.{◌≡◌, ◌∙◌, ap, append_assoc}
 use Rattle.c_tree.specs.ExprTree.{Call, ident_of, expr_of, arguments_in}
 use Rattle.c_tree.proofs.Trees.{expr_of-Call}
 use Rattle.c_types.proofs.Arguments.{arguments_at}

@@ -1,4 +1,4 @@
-use Rattle.std.proofs.Common.{◌+◌, append_assoc}
+use Rattle.std.proofs.Common.{append_assoc}
 use Rattle.c_types.proofs.After.{statements_at}
 use Rattle.trap_line.proofs.statements.+statements.Goals as goal
 
