@@ -1,6 +1,6 @@
 -- After each event of the recovery of a marked call the image is one of those that the law names.
-use Rattle.std.proofs.Common.{◌≡◌, ◌≢◌, ◌⊎◌, inl, inr, ℕ, zero, suc, ◌+◌, ◌^◌, ◌<◌, ◌≤◌, List, [], ◌++◌}
-use Rattle.std.proofs.Common.{length, ℤ, pos, refl, sym, ap, ◌∙◌, subst, arith, append_assoc}
+use Rattle.std.proofs.Common.{◌≡◌, ◌≢◌, ◌⊎◌, inl, inr, ℕ, zero, suc, ◌+◌, ◌^◌, ◌<◌, ◌≤◌, List, []}
+use Rattle.std.proofs.Common.{◌++◌, length, ℤ, pos, refl, sym, ap, ◌∙◌, subst, arith, append_assoc}
 use Rattle.cache_model.specs.Event.{CacheEvent, Store, Flush}
 use Rattle.cache_model.specs.Cache.{Words, Cache, view}
 use Rattle.cache_model.specs.Play.{apply, play}
@@ -123,8 +123,8 @@ module _ (image : Image) (super : Words) (tx : ℕ) (args : List ℤ) (c : Cache
   run_list e b = crash.due_run z b (suc d) r (result_by last e) (trace_in es)
 
   run_same : (b : Cache) (k : ℕ) → k ≤ 2 ^ 62 → view b LAST ≡ last → view b DONE ≡ pos d →
-      view b ATTEMPT ≡ pos k → Holds z k crash.no_records b → heap_in z b ≡ r → (e : End) → end ≡ e →
-      due_run image s b ≡ run_list e k
+      view b ATTEMPT ≡ pos k → Holds z k crash.no_records b → heap_in z b ≡ r → (e : End) →
+      end ≡ e → due_run image s b ≡ run_list e k
   run_same b k fits last_is done attempt none heap (Halted v) is =
       done_is image s b d k r es owed.done_fits fits done attempt none heap v
       (ran_again ∙ ap (λ (q : End). Finished q es) is) tt
@@ -142,8 +142,8 @@ module _ (image : Image) (super : Words) (tx : ℕ) (args : List ℤ) (c : Cache
       owes_of image s b d k r es owed.done_fits fits done attempt none heap end ran_again tt
 
   counting : (b : Cache) (k : ℕ) → k ≤ 2 ^ 62 → view b DONE ≡ pos d → view b ATTEMPT ≡ pos k →
-      Holds z k crash.no_records b → heap_in z b ≡ r → run_steps image s b ≡ marked_steps image h tx args
-      end es
+      Holds z k crash.no_records b → heap_in z b ≡ r →
+      run_steps image s b ≡ marked_steps image h tx args end es
   counting b k fits done attempt none heap =
       steps_are image s b d k r es owed.done_fits fits done attempt none heap end ran_again tt
       both.0 both.1

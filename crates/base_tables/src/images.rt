@@ -6,8 +6,9 @@ use pool_layout::{
 use std::alloc::{AllocError, Global};
 use std::test::Fail;
 
-const PROGRAM: &str =
-    "struct R { int64_t n; };\npersistent struct R root;\ntx int64_t inc(int64_t d) { root.n = root.n + d; return root.n; }\n";
+const PROGRAM: &str = "struct R { int64_t n; };\n\
+     persistent struct R root;\n\
+     tx int64_t inc(int64_t d) { root.n = root.n + d; return root.n; }\n";
 
 const MAGIC: i64 = 5498700876356144707;
 

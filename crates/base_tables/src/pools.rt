@@ -82,8 +82,8 @@ fn written(rt: &impl Abort, alloc: Global) -> Result<(), AllocError> {
     pool.root_set(2, -1);
     pool.new_object(2, 1, 4)?;
     pool.set(2, 0, i64::MAX);
-    let want =
-        "root n=-9223372036854775808 t=[0,-1] head=0\nslot 2 Node v=9223372036854775807 a=[0,0,0]\n";
+    let want = "root n=-9223372036854775808 t=[0,-1] head=0\n\
+         slot 2 Node v=9223372036854775807 a=[0,0,0]\n";
     shows(rt, alloc, &pool, want)
 }
 

@@ -8,7 +8,7 @@ use Rattle.c_fragment.specs.Statement.{Goto, GotoIfZero, SetLoad, StoreAt, SetFr
 use Rattle.c_fragment.specs.Statement.{FlushFirst, FenceAll, SetCall, TakeTick, TrapWith}
 use Rattle.c_fragment.specs.Statement.{ReturnWith, CFunction}
 
--- Each piece is followed by what comes behind it, so that a whole text is one list of pieces.
+-- Each piece is followed by what comes after it, so that a whole text is one list of pieces.
 
 -- `first R[a] middle R[b] last`
 abbrev pub operation : (first middle last : List ℕ) → (a b : ℕ) → List ℕ
@@ -50,7 +50,7 @@ argument a = codes ", r" ++ decimal a
 abbrev pub setting : ℕ → List ℕ → List ℕ
 setting r value = codes "r" ++ (decimal r ++ (codes " = " ++ value))
 
--- a call up to its arguments, and behind them
+-- a call up to its arguments, and after them
 unfoldable pub opening : (r f : ℕ) → List ℕ
 opening r f =
     codes "if (p->open == 256) { t = 8; goto T; } p->open++; r" ++ (decimal r

@@ -5,8 +5,8 @@ use crate::summary::with_line;
 use plain_notes::{message_of, of_storm_trap};
 use std::alloc::{AllocError, Global};
 
-/// The call of a storm that trapped: its round, counted from 1, its text, which may be empty, and the
-/// line of the program.
+/// The call of a storm that trapped: its round, counted from 1, its text, which may be empty, and
+/// the line of the program.
 #[derive(Clone, Copy)]
 pub struct Stormed<'a> {
     pub round: u64,

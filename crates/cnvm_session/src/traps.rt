@@ -65,7 +65,7 @@ impl Traps {
         }
     }
 
-    /// Takes the answer of a command of a storm's round: `commands` are those of the round up to it.
+    /// Takes the answer of a command of a storm's round: `commands` are the round's up to it.
     pub fn saw_in_round(
         &mut self,
         alloc: Global,

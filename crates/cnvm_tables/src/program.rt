@@ -4,8 +4,9 @@ use pool_layout::{digest, image_bytes};
 use std::alloc::{AllocError, Global};
 
 /// A counter. A call of `inc` has 20 events, and the creation of its pool has 13.
-pub(crate) const COUNTER: &str =
-    "struct R { int64_t n; };\npersistent struct R root;\ntx int64_t inc(int64_t d) { root.n = root.n + d; return root.n; }\n";
+pub(crate) const COUNTER: &str = "struct R { int64_t n; };\n\
+     persistent struct R root;\n\
+     tx int64_t inc(int64_t d) { root.n = root.n + d; return root.n; }\n";
 
 /// The words, other than 0 and the digest, of the counter's pool with one slot and one record after
 /// one call of `inc` with 5.

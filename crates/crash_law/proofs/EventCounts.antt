@@ -79,6 +79,7 @@ row_72 : (a : ℕ) (f y0 : ℤ) (heap : ℕ → ℤ) (x y last : ℤ) →
     length (due_call sizes_72 a (record { done = 1; function = f; args = y0 ∷ [] }) heap
     (Undone last) (Logged 0 x ∷ Logged 1 y ∷ [])) ≡ 29
 row_72 a f y0 heap x y last =
-    count_undone sizes_72 (λ w. true) (λ w. true) a (record { done = 1; function = f; args = y0 ∷ [] }) heap
+    count_undone sizes_72 (λ w. true) (λ w. true) a
+    (record { done = 1; function = f; args = y0 ∷ [] }) heap
     (Logged 0 x ∷ Logged 1 y ∷ []) last
     (refl, omega arith, omega arith, (refl, omega arith, omega arith, tt))

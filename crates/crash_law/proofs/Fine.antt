@@ -56,8 +56,8 @@ abbrev pub IsFine : Layout → Fine → Words → Type 0
 IsFine C f image = (q : Place) → IsPlace C q → ok f q (image (at C q))
 
 -- The setting of a call's law: the pool and the call, the inputs E and overwrites W of its run from
--- h, a heap r that differs from h only in words of W that aren't in E, and what is asked of the last
--- value.
+-- h, a heap r that differs from h only in words of W that aren't in E, and what is asked of the
+-- last value.
 pub record Setting : Type 1 where
   pub pool : Pool
   pub call : Call

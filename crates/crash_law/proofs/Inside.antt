@@ -27,8 +27,8 @@ inside_after z E W [] r heap stored is inside = inside
 inside_after z E W (Plain w x ∷ trace) r heap stored is inside =
     inside_after z E W trace r (put heap w x) (λ u. (u ≡ w) ⊎ stored u) is.3 inside
 inside_after z E W (Logged w x ∷ trace) r heap stored is inside =
-    inside_after z E W trace (with_record r w (heap w)) (put heap w x) (λ u. (u ≡ w) ⊎ stored u) is.3
-    (inside_more z r w (heap w) is.1 inside)
+    inside_after z E W trace (with_record r w (heap w)) (put heap w x) (λ u. (u ≡ w) ⊎ stored u)
+    is.3 (inside_more z r w (heap w) is.1 inside)
 
 pub all_inside : (z : Sizes) (E W : ℕ → Type 0) (trace : List Entry) (heap : ℕ → ℤ) →
     IsTrace z.records (heap_words z) E W 0 (λ w. ⊥) trace →

@@ -1,8 +1,8 @@
 -- The whole recovery of an image in which a call is owed.
 use Rattle.pool_layout.specs.Sizes.{heap_words}
-use Rattle.std.proofs.Common.{length, ◌≡◌, ◌⊎◌, inl, inr, ⊎_elim, ℕ, zero, suc, ◌^◌, ◌<◌, ◌≤◌, List, ◌∷◌}
-use Rattle.std.proofs.Common.{◌++◌, Option, Some, None, ℤ, pos, refl, sym, ap, ◌∙◌, subst, arith}
-use Rattle.std.proofs.Common.{unwrap_or}
+use Rattle.std.proofs.Common.{length, ◌≡◌, ◌⊎◌, inl, inr, ⊎_elim, ℕ, zero, suc, ◌^◌, ◌<◌, ◌≤◌, List}
+use Rattle.std.proofs.Common.{◌∷◌, ◌++◌, Option, Some, None, ℤ, pos, refl, sym, ap, ◌∙◌, subst}
+use Rattle.std.proofs.Common.{arith, unwrap_or}
 use Rattle.cache_model.specs.Event.{CacheEvent, Fence}
 use Rattle.cache_model.specs.Cache.{Words, Cache, view}
 use Rattle.cache_model.specs.Image.{Images, HasOne}

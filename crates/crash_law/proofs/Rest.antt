@@ -157,7 +157,8 @@ module _ (z : Sizes) (a : ℕ) where
       let ran : Clean D (play c (run_events z a 0 heap trace)) =
       run_clean D trace 0 heap c (λ w stored. stored_listed z trace w stored) clean in
       subst IsAtRest
-      (sym (play_append c (run_events z a 0 heap trace) (end_events z a k heap (Halted value) trace)))
+      (sym (play_append c (run_events z a 0 heap trace)
+      (end_events z a k heap (Halted value) trace)))
       (flush_rest (lines_of z [] trace) (Fence ∷ retire_events value (pos k) (pos (suc a)))
       (play c (run_events z a 0 heap trace)) ran
       (λ d clean_d. retire_rest k value (apply d Fence) (fence_rest d clean_d)))
@@ -279,7 +280,8 @@ named_all : (C H : ℕ) (E W : ℕ → Type 0) (trace : List Entry) (r : Records
     (stored : ℕ → Type 0) → ((w : ℕ) → W w → E w) →
     IsTrace C H E W r.n stored trace → ((u : ℕ) → stored u → Named r u) → (u : ℕ) → stored u
     ⊎ IsStored u trace → Named (records_after r heap trace) u
-named_all C H E W [] r heap stored inputs is has u h = ⊎_elim (λ st. has u st) (λ none. absurd none) h
+named_all C H E W [] r heap stored inputs is has u h =
+    ⊎_elim (λ st. has u st) (λ none. absurd none) h
 named_all C H E W (Plain w x ∷ trace) r heap stored inputs is has u h =
     named_all C H E W trace r (put heap w x)
     (λ v. (v ≡ w) ⊎ stored v) inputs is.3

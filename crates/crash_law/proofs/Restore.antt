@@ -10,8 +10,9 @@ use Rattle.cache_model.specs.Cache.{Words, Cache, view}
 use Rattle.cache_model.specs.Play.{apply}
 use Rattle.cache_model.specs.Image.{IsVersion, Images}
 use Rattle.pool_layout.specs.declared.places.Place.{Place}
-use Rattle.pool_layout.specs.declared.places.Place.TheVariants.{Last, Done, Attempt, Mark, RecordWord}
-use Rattle.pool_layout.specs.declared.places.Place.TheVariants.{RecordOld, RecordStamp, Heap}
+use Rattle.pool_layout.specs.declared.places.Place.TheVariants.{Last, Done, Attempt, Mark}
+use Rattle.pool_layout.specs.declared.places.Place.TheVariants.{RecordWord, RecordOld, RecordStamp}
+use Rattle.pool_layout.specs.declared.places.Place.TheVariants.{Heap}
 use Rattle.pool_layout.specs.declared.places.Layout.{Layout}
 use Rattle.pool_layout.specs.Places.{at, line_of, IsPlace, pool_of}
 use Rattle.pool_layout.specs.Restored.{undo, undone}
@@ -230,7 +231,8 @@ module _ (s : Setting) (a : ℕ) (a_fits : a ≤ 2 ^ 62) (n : ℕ) (word old : �
         (line_two s a a_fits again c2 last2 done2 attempt2 mark2) held1 in
         let held3 : Held C 2 either c3 = held_flush C 2 either c2 2 held2 in
         let new3 = line_two s a a_fits again c3
-        (subst s.kept (sym (view_flush c2 2 (at C Last))) last2) (view_flush c2 2 (at C Done) ∙ done2)
+        (subst s.kept (sym (view_flush c2 2 (at C Last))) last2)
+        (view_flush c2 2 (at C Done) ∙ done2)
         (view_flush c2 2 (at C Attempt) ∙ attempt2) (view_flush c2 2 (at C Mark) ∙ mark2) in
         let cover4 : Cover C (ok again) c4 =
         held_single C 2 either c3 true (flush_ready c2 2 2 (λ ne. absurd (ne refl))) new3 held3 in

@@ -207,7 +207,8 @@ module _ (s : Setting) (a : ℕ) (a_fits : a ≤ 2 ^ 62) (last : ℤ) (keeps : s
   }
 
   abbrev pub BeforeOrOwed : Words → Type 0
-  BeforeOrOwed image = IsBefore s.pool d s.h last image ⊎ Owed s.pool s.call s.E s.W s.h s.kept image
+  BeforeOrOwed image =
+      IsBefore s.pool d s.h last image ⊎ Owed s.pool s.call s.E s.W s.h s.kept image
 
   of_either : (image : Words) → (b : Bool)
       → ((q : Place) → IsPlace C q → either b q (image (at C q))) → BeforeOrOwed image

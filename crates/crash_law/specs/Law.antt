@@ -1,7 +1,7 @@
 -- The crash law of a call and of its recovery.
 use Rattle.pool_layout.specs.Sizes.{heap_words}
-use Rattle.std.specs.Prelude.{◌≤◌, ◌+◌, ◌*◌, ◌/◌, Option, Some, ◌∷◌, Bool, IsTrue, ℕ, zero, suc, ◌^◌}
-use Rattle.std.specs.Prelude.{◌<◌, ◌≡◌}
+use Rattle.std.specs.Prelude.{◌≤◌, ◌+◌, ◌*◌, ◌/◌, Option, Some, ◌∷◌, Bool, IsTrue, ℕ, zero, suc}
+use Rattle.std.specs.Prelude.{◌^◌, ◌<◌, ◌≡◌}
 use Rattle.std.specs.Prelude.{◌⊎◌, List, [], ◌++◌, length, None, ℤ}
 use Rattle.cache_model.specs.Event.{CacheEvent, Fence}
 use Rattle.cache_model.specs.Cache.{Words, Cache}

@@ -34,8 +34,8 @@ use std::sync::ledger::Ledger;
 use tx_run::Standing;
 
 /// The workers of a device, one for each compartment, from 1 to 8, with the unfinished transaction
-/// of each. It is seen as the list of these. Beside them stands where the machine of each worker did
-/// its last instruction, which no clause names.
+/// of each. It is seen as the list of these. Beside them stands where the machine of each worker
+/// did its last instruction, which no clause names.
 #[derive(Drop)]
 pub struct Workers {
     alloc: Global,

@@ -23,9 +23,9 @@ returns-in-Ok-read_turns-clause-ends g c =
       c.in-Ok-read_turns.ensures.told,
       subst
           (λ (commands : List WorkersCommand). WorkersRanAs c.in-Ok.compiled.program c.args.count
-          commands c.run_turns-status.result (written c.args.world.now.out) (written c.run_turns-status.new.out)
-          (dev c.args.world.now.dev) (dev c.run_turns-status.new.dev) c.args.steps.now
-          c.run_turns-status.new.steps)
+          commands c.run_turns-status.result (written c.args.world.now.out)
+          (written c.run_turns-status.new.out) (dev c.args.world.now.dev)
+          (dev c.run_turns-status.new.dev) c.args.steps.now c.run_turns-status.new.steps)
           c.as_slice.ensures c.run_turns-status.ensures.ran,
     )
 
