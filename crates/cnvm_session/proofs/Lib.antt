@@ -8,4 +8,5 @@ pub mod Recoveries
 pub mod Rest
 pub mod Refusing
 pub mod Quiets
+pub mod Writing
 pub mod Bounding

@@ -26,7 +26,7 @@ pub use mode::Mode;
 pub use opening::open_pool;
 pub use outcome::answer_of_recovery;
 pub use program::Program;
-pub use session::{Session, create, first_fallen, parameters, start_from};
+pub use session::{Session, create, first_fallen, parameters, resume, start_from};
 pub use showing::{pool_in, pool_text};
 pub use text::answer_text;
 pub use traps::{Trapped, Traps};

@@ -124,12 +124,31 @@ pub fn start_from<P: Pmem, L: Ledger>(
 {
     match open_pool(program.image.sizes(), words, dev) {
         Err(fault) => Err(fault),
-        Ok(()) => {
-            let mut session = Session::in_mode(Mode::Down);
-            let answer = session.recover(alloc, program, dev, steps);
-            Ok((session, answer))
-        }
+        Ok(()) => Ok(resume(alloc, program, dev, steps)),
     }
+}
+
+/// Starts a session on the pool that lies on the device, and gives the answer of the recovery that
+/// opens it.
+pub fn resume<P: PmemWork, L: Ledger>(
+    alloc: Global,
+    program: &Program,
+    dev: &mut P,
+    steps: &mut Steps<L>,
+) -> (Session, Answer)
+    requires lines { (P.device dev.old).lines ≡ pool_lines program.now.image.parts.sizes }
+    requires on { (P.device dev.old).on ≡ true }
+    ensures recovers { Recovers program.now (P.device dev.old) result.1 result.0
+        (P.device dev.new) steps.old steps.new }
+    ensures fault { result.1 ≡ Answer.DeviceFault
+        → FaultsRose (P.device dev.old).faults (P.device dev.new).faults }
+    ensures most { steps.new ≤ steps.old + bounded_steps
+        (owes_marked program.now (P.device dev.old)) program.now.image }
+    ensures lines { (P.device dev.new).lines ≡ (P.device dev.old).lines }
+{
+    let mut session = Session::in_mode(Mode::Down);
+    let answer = session.recover(alloc, program, dev, steps);
+    (session, answer)
 }
 
 /// How many parameters a transaction of the image has, for any number.

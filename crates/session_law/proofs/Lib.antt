@@ -20,7 +20,6 @@ pub mod MarkedRecoveries
 pub mod Powers
 pub mod Commands
 pub mod Creating
-pub mod Writing
 pub mod Opening
 pub mod Steps
 pub mod CallSteps

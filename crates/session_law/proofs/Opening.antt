@@ -62,7 +62,7 @@ use Rattle.session_law.proofs.Retired.{attempt_small}
 use Rattle.session_law.proofs.Reading.{kind_read, taken_is, next_done}
 use Rattle.session_law.proofs.MarkedRuns.{marked_run}
 use Rattle.session_law.proofs.Powers.{HeldAs, held_recovers}
-use Rattle.session_law.proofs.Writing.{written_word, written_rest}
+use Rattle.cnvm_session.proofs.Writing.{written_word, written_rest}
 
 -- each mark from 1 to 8 is the number of a trap
 trap_with : (n : ℕ) → 0 < n → n ≤ 8 → (kind : TrapKind) × (n ≡ trap_number kind)

@@ -54,7 +54,7 @@ use Rattle.session_law.proofs.Reading.{is_marked, is_owed}
 use Rattle.session_law.proofs.Recoveries.{redo_seal}
 use Rattle.session_law.proofs.MarkedRecoveries.{KeepsLast, marked_redo_left}
 use Rattle.session_law.proofs.Powers.{HeldAs, owing_as, left_held}
-use Rattle.session_law.proofs.Writing.{written_rest, written_word}
+use Rattle.cnvm_session.proofs.Writing.{written_rest, written_word}
 use Rattle.session_law.proofs.Opening.{opened_held}
 use Rattle.session_law.proofs.Histories.{finished_counts}
 
