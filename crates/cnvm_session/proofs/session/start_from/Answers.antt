@@ -3,10 +3,10 @@ use Rattle.pmem.proofs.Refused.{all_on}
 use Rattle.cnvm_session.proofs.Bounding.{owed_most}
 use Rattle.cnvm_session.proofs.session.start_from.Goals as goal
 
-pub recover-answer-requires-clause-on : goal.recover-answer-requires-clause-on
-recover-answer-requires-clause-on g c = all_on _ _ _ c.in-Ok.ensures.done
+pub resume-requires-clause-on : goal.resume-requires-clause-on
+resume-requires-clause-on g c = all_on _ _ _ c.in-Ok.ensures.done
 
 pub returns-in-Ok-clause-most : goal.returns-in-Ok-clause-most
 returns-in-Ok-clause-most g c =
     let owed = owed_most c.args.program.now (g.P.PmemWork.device c.open_pool.new.dev) in
-    let most = c.recover-answer.ensures.most in omega (arith, owed, most)
+    let most = c.resume.ensures.most in omega (arith, owed, most)
