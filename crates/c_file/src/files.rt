@@ -37,7 +37,7 @@ static int cn_map(struct cn_pool *p, int sync, struct cnvm_fault *fault) {
     int is_mapped = 0;
     p->page = (uint64_t)sysconf(_SC_PAGESIZE);
 #ifdef MAP_SYNC
-    if (sync == CNVM_AUTO && cn_instruction(CNVM_CACHE) >= 0)
+    if (sync < CNVM_MSYNC && cn_instruction(CNVM_CACHE) >= 0)
         is_mapped = cn_map_with(p, MAP_SHARED_VALIDATE | MAP_SYNC) == 0;
 #endif
     if (sync == CNVM_AUTO) sync = is_mapped ? CNVM_CACHE : CNVM_MSYNC;

@@ -35,6 +35,10 @@ pub const FUNCTIONS: &str = r#"
 #pragma GCC diagnostic ignored "-Wunused-variable"
 #pragma GCC diagnostic ignored "-Wunused-parameter"
 #pragma GCC diagnostic ignored "-Wunused-but-set-variable"
+#pragma GCC diagnostic ignored "-Wtautological-compare"
+#ifdef __clang__
+#pragma GCC diagnostic ignored "-Wself-assign"
+#endif
 
 "#;
 

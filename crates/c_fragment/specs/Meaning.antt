@@ -1,63 +1,38 @@
--- The meaning of the fragment: a step is one statement. All values are numbers below 2^64, as C's
--- uint64_t. `Undefined` is what C gives no meaning: a variable that isn't declared, a label that
--- isn't there, a function that isn't there or has another number of parameters, and running out of
--- the code.
+-- The meaning of the fragment: a step is one statement. `Undefined` is what C gives no meaning: a
+-- variable that isn't declared, a label that isn't there, a function that isn't there or has
+-- another number of parameters, and running out of the code.
 --
 -- What a function of the runtime does to the pool's words is given here, and so is its result;
 -- that its own text does so isn't said here.
-use Rattle.std.specs.Prelude.{ℕ, suc, ◌+◌, ◌-◌, ◌*◌, ◌/◌, ◌%◌, ◌^◌, ◌==◌, List, [], ◌∷◌}
-use Rattle.std.specs.Prelude.{length, slice_get, slice_set, Option, Some, None}
-use Rattle.std.specs.Prelude.{Bool, not, if◌then◌else◌, nat_lt, nat_eq, bit_and, bit_or, bit_xor}
+use Rattle.std.specs.Prelude.{ℕ, ◌+◌, ◌-◌, ◌*◌, ◌%◌, ◌^◌, ◌==◌, List, [], ◌∷◌, length, map, pos}
+use Rattle.std.specs.Prelude.{slice_get, slice_index_or, Option, Some, None, Bool, not, ◌&&◌}
+use Rattle.std.specs.Prelude.{if◌then◌else◌, nat_lt, bit_and, bit_or, bit_xor}
 use Rattle.std.specs.Int.{w64, cast_signed}
-use Rattle.indexmap.specs.IndexSet.{insert_key}
+use Rattle.std.specs.List.{list_all}
+use Rattle.nvm_base.specs.Listed.{is_listed}
 use Rattle.nvm_base.specs.Operations.{unsigned}
 use Rattle.nvm_base.specs.Applied.{applied}
 use Rattle.nvm_base.specs.declared.op.BinOp.TheVariants as operations
+use Rattle.pool_layout.specs.Sizes.{heap_words}
+use Rattle.pm_machine.specs.Find.{least}
 use Rattle.c_fragment.specs.Statement.{Operator, Plus, Minus, Times, Both, Either, OneOf, Equal}
 use Rattle.c_fragment.specs.Statement.{Unequal, Below, Quotient, Remainder, ShiftLeft, ShiftRight}
 use Rattle.c_fragment.specs.Statement.{Less, LessOrEqual, Statement, SetWord, SetCopy, SetOperation}
 use Rattle.c_fragment.specs.Statement.{Goto, GotoIfZero, SetLoad, StoreAt, SetFree, LogAt}
 use Rattle.c_fragment.specs.Statement.{FlushFirst, FenceAll, SetCall, TakeTick, TrapWith}
 use Rattle.c_fragment.specs.Statement.{ReturnWith, CFunction}
+use Rattle.c_fragment.specs.State.{RunSetting, Waiting, CState, PoolStep, Stored, Recorded, Flushed}
+use Rattle.c_fragment.specs.State.{Fenced, state_at, state_past, with_register, with_store}
+use Rattle.c_fragment.specs.State.{with_logged, with_tick, with_flushed, variables_of, with_callee}
+use Rattle.c_fragment.specs.State.{with_result}
 
--- a function that waits for the result of a call, which goes to register `to`
-pub record Waiting : Type 0 where
-  pub function : ℕ
-  pub place : ℕ
-  pub to : ℕ
-  pub registers : List ℕ
-
--- the open function, the label of its next statement, its variables, and the functions that wait,
--- the innermost first; the ticks left, the lines stored to and not yet flushed, the records in the
--- log, and the pool's heap words
-pub record CState : Type 0 where
-  pub function : ℕ
-  pub place : ℕ
-  pub registers : List ℕ
-  pub waiting : List Waiting
-  pub ticks : ℕ
-  pub dirty : List ℕ
-  pub records : ℕ
-  pub heap : ℕ → ℕ
-
--- what a statement has the runtime do to the pool
-pub data PoolStep : Type 0 where
-  Nothing : PoolStep
-  Stored : (w v : ℕ) → PoolStep
-  Recorded : (w : ℕ) → PoolStep
-  Flushed : (l : ℕ) → PoolStep
-  Fenced : PoolStep
-
+-- A statement has the runtime do these steps and goes on, or it ends the run: with a value of the
+-- function that was called first, or with a trap. After a trap each open function returns at once.
 pub data CStep : Type 0 where
-  Goes : PoolStep → CState → CStep
+  Goes : List PoolStep → CState → CStep
   Returns : (v : ℕ) → CStep
   Traps : (k : ℕ) → CStep
   Undefined : CStep
-
--- the sizes that the runtime's text has: heap words and records
-pub record Limits : Type 0 where
-  pub heap_words : ℕ
-  pub records : ℕ
 
 abbrev pub one_if : Bool → ℕ
 one_if holds = if holds then 1 else 0
@@ -80,152 +55,111 @@ c_value ShiftRight a b = unsigned (applied operations.Shr (cast_signed w64 a) (c
 c_value Less a b = unsigned (applied operations.Lt (cast_signed w64 a) (cast_signed w64 b))
 c_value LessOrEqual a b = unsigned (applied operations.Le (cast_signed w64 a) (cast_signed w64 b))
 
-abbrev pub state_at : CState → ℕ → CState
-state_at c p = record {
-  function = c.function;
-  place = p;
-  registers = c.registers;
-  waiting = c.waiting;
-  ticks = c.ticks;
-  dirty = c.dirty;
-  records = c.records;
-  heap = c.heap;
-}
-
-abbrev pub state_past : CState → CState
-state_past c = state_at c (c.place + 1)
-
-abbrev pub with_register : CState → (r v : ℕ) → CState
-with_register c r v = record {
-  function = c.function;
-  place = c.place + 1;
-  registers = slice_set c.registers r v;
-  waiting = c.waiting;
-  ticks = c.ticks;
-  dirty = c.dirty;
-  records = c.records;
-  heap = c.heap;
-}
-
-abbrev pub with_store : CState → (w v : ℕ) → CState
-with_store c w v = record {
-  function = c.function;
-  place = c.place + 1;
-  registers = c.registers;
-  waiting = c.waiting;
-  ticks = c.ticks;
-  dirty = insert_key nat_eq c.dirty (w / 8);
-  records = c.records;
-  heap = λ u. if u == w then v else c.heap u;
-}
-
-abbrev pub with_logged : CState → CState
-with_logged c = record {
-  function = c.function;
-  place = c.place + 1;
-  registers = c.registers;
-  waiting = c.waiting;
-  ticks = c.ticks;
-  dirty = c.dirty;
-  records = suc c.records;
-  heap = c.heap;
-}
-
-abbrev pub with_tick : CState → CState
-with_tick c = record {
-  function = c.function;
-  place = c.place + 1;
-  registers = c.registers;
-  waiting = c.waiting;
-  ticks = c.ticks - 1;
-  dirty = c.dirty;
-  records = c.records;
-  heap = c.heap;
-}
-
-abbrev pub with_flushed : CState → (t : ℕ) → List ℕ → CState
-with_flushed c t ls = record {
-  function = c.function;
-  place = t;
-  registers = c.registers;
-  waiting = c.waiting;
-  ticks = c.ticks;
-  dirty = ls;
-  records = c.records;
-  heap = c.heap;
-}
-
 -- what is done with a variable's value
 abbrev pub using_value : Option ℕ → (ℕ → CStep) → CStep
 using_value None more = Undefined
 using_value (Some v) more = more v
 
 abbrev pub assign : CState → (r v : ℕ) → CStep
-assign c r v = if nat_lt r (length c.registers) then Goes Nothing (with_register c r v)
-    else Undefined
+assign c r v = if nat_lt r (length c.registers) then Goes [] (with_register c r v) else Undefined
 
 -- goes to a label of a function of n statements
 abbrev pub jump_to : (n : ℕ) → CState → ℕ → CStep
-jump_to n c t = if nat_lt t n then Goes Nothing (state_at c t) else Undefined
+jump_to n c t = if nat_lt t n then Goes [] (state_at c t) else Undefined
 
 abbrev pub address_of : (a o : ℕ) → ℕ
 address_of a o = (a + o) % 2 ^ 64
 
 -- cn_load_at
-abbrev pub word_loaded : Limits → CState → ℕ → ℕ
-word_loaded z c x = if nat_lt x z.heap_words then c.heap x else 0
+abbrev pub word_loaded : RunSetting → CState → ℕ → ℕ
+word_loaded z c x = if nat_lt x (heap_words z.sizes) then c.heap x else 0
+
+-- cn_find: the least free slot, or 0
+abbrev pub slot_found : RunSetting → CState → ℕ
+slot_found z c = least z.sizes (λ w. pos (c.heap w))
+
+-- cn_log, and what is done if there was room for the record
+abbrev pub word_recorded : RunSetting → CState → ℕ → (CState → CStep) → CStep
+word_recorded z c x more = if nat_lt (length c.logged) z.sizes.records then more (with_logged c x)
+    else Traps 7
+
+-- a call that rolls back stores to a word without a record
+abbrev pub lacks_record : RunSetting → CState → ℕ → Bool
+lacks_record z c x = z.rolls_back && not (is_listed x c.logged)
 
 -- cn_store_at
-abbrev pub word_stored : Limits → CState → (x v : ℕ) → CStep
-word_stored z c x v = if nat_lt x z.heap_words then Goes (Stored x v) (with_store c x v)
-    else Goes Nothing (state_past c)
+abbrev pub word_stored : RunSetting → CState → (x v : ℕ) → CStep
+word_stored z c x v = if nat_lt x (heap_words z.sizes)
+    then (if lacks_record z c x
+    then word_recorded z c x (λ d. Goes (Recorded x ∷ Stored x v ∷ []) (with_store d x v))
+    else Goes (Stored x v ∷ []) (with_store c x v)) else Goes [] (state_past c)
 
 -- cn_log_at
-abbrev pub word_logged : Limits → CState → ℕ → CStep
-word_logged z c x = if nat_lt x z.heap_words
-    then (if nat_lt c.records z.records then Goes (Recorded x) (with_logged c) else Traps 7)
-    else Goes Nothing (state_past c)
+abbrev pub word_logged : RunSetting → CState → ℕ → CStep
+word_logged z c x = if nat_lt x (heap_words z.sizes)
+    then word_recorded z c x (λ d. Goes (Recorded x ∷ []) (state_past d))
+    else Goes [] (state_past c)
 
 -- cn_flush_first, and the jump to t where there was a line
 abbrev pub flush_first : (n : ℕ) → CState → (t : ℕ) → List ℕ → CStep
-flush_first n c t [] = Goes Nothing (state_past c)
+flush_first n c t [] = Goes [] (state_past c)
 flush_first n c t (l ∷ ls) =
-    if nat_lt t n then Goes (Flushed l) (with_flushed c t ls) else Undefined
+    if nat_lt t n then Goes (Flushed l ∷ []) (with_flushed c t ls) else Undefined
 
--- one statement of a function of n statements. Of searches, calls and returns nothing is said yet.
-abbrev pub c_does : Limits → (n : ℕ) → CState → Statement → CStep
-c_does z n c (SetWord r v) = assign c r v
-c_does z n c (SetCopy r a) = using_value (slice_get c.registers a) (λ x. assign c r x)
-c_does z n c (SetOperation op r a b) =
+-- 256 functions may be open
+abbrev pub function_entered : CState → (r f : ℕ) → List ℕ → Option CFunction → CStep
+function_entered c r f args None = Undefined
+function_entered c r f args (Some u) = if u.parameters == length args
+    then (if length c.waiting + 1 == 256 then Traps 8
+    else Goes [] (with_callee c r f (variables_of u args))) else Undefined
+
+-- a call of function f with these variables as arguments, its result to register r
+abbrev pub call_done : List CFunction → CState → (r f : ℕ) → List ℕ → CStep
+call_done us c r f args = if nat_lt r (length c.registers)
+    && list_all (λ a. nat_lt a (length c.registers)) args
+    then function_entered c r f (map (λ a. slice_index_or c.registers a 0) args) (slice_get us f)
+    else Undefined
+
+abbrev pub function_left : CState → (v : ℕ) → List Waiting → CStep
+function_left c v [] = Returns v
+function_left c v (w ∷ ws) = Goes [] (with_result c v w ws)
+
+-- one statement of a function of n statements, in a file of functions
+abbrev pub c_does : RunSetting → List CFunction → (n : ℕ) → CState → Statement → CStep
+c_does z us n c (SetWord r v) = assign c r v
+c_does z us n c (SetCopy r a) = using_value (slice_get c.registers a) (λ x. assign c r x)
+c_does z us n c (SetOperation op r a b) =
     using_value (slice_get c.registers a)
     (λ x. using_value (slice_get c.registers b) (λ y. assign c r (c_value op x y)))
-c_does z n c (Goto t) = jump_to n c t
-c_does z n c (GotoIfZero a t) =
+c_does z us n c (Goto t) = jump_to n c t
+c_does z us n c (GotoIfZero a t) =
     using_value (slice_get c.registers a)
-    (λ x. if x == 0 then jump_to n c t else Goes Nothing (state_past c))
-c_does z n c (SetLoad r a o) =
+    (λ x. if x == 0 then jump_to n c t else Goes [] (state_past c))
+c_does z us n c (SetLoad r a o) =
     using_value (slice_get c.registers a) (λ x. assign c r (word_loaded z c (address_of x o)))
-c_does z n c (StoreAt a o b) =
+c_does z us n c (StoreAt a o b) =
     using_value (slice_get c.registers a)
     (λ x. using_value (slice_get c.registers b) (λ y. word_stored z c (address_of x o) y))
-c_does z n c (LogAt a o) =
+c_does z us n c (LogAt a o) =
     using_value (slice_get c.registers a) (λ x. word_logged z c (address_of x o))
-c_does z n c FenceAll = Goes Fenced (state_past c)
-c_does z n c TakeTick = if c.ticks == 0 then Traps 5 else Goes Nothing (with_tick c)
-c_does z n c (TrapWith k) = Traps k
-c_does z n c (SetFree r) = Undefined
-c_does z n c (FlushFirst t) = flush_first n c t c.dirty
-c_does z n c (SetCall r f args) = Undefined
-c_does z n c (ReturnWith a) = Undefined
+c_does z us n c FenceAll = Goes (Fenced ∷ []) (state_past c)
+c_does z us n c TakeTick = if c.ticks == 0 then Traps 5 else Goes [] (with_tick c)
+c_does z us n c (TrapWith k) = Traps k
+c_does z us n c (SetFree r) = assign c r (slot_found z c)
+c_does z us n c (FlushFirst t) = flush_first n c t c.dirty
+c_does z us n c (SetCall r f args) = call_done us c r f args
+c_does z us n c (ReturnWith a) =
+    using_value (slice_get c.registers a) (λ v. function_left c v c.waiting)
 
-abbrev pub statement_done : Limits → (n : ℕ) → CState → Option Statement → CStep
-statement_done z n c None = Undefined
-statement_done z n c (Some s) = c_does z n c s
+abbrev pub statement_done : RunSetting → List CFunction → (n : ℕ) → CState → Option Statement
+    → CStep
+statement_done z us n c None = Undefined
+statement_done z us n c (Some s) = c_does z us n c s
 
-abbrev pub done_in : Limits → CState → Option CFunction → CStep
-done_in z c None = Undefined
-done_in z c (Some u) = statement_done z (length u.code) c (slice_get u.code c.place)
+abbrev pub done_in : RunSetting → List CFunction → CState → Option CFunction → CStep
+done_in z us c None = Undefined
+done_in z us c (Some u) = statement_done z us (length u.code) c (slice_get u.code c.place)
 
 -- one step of a file of functions
-abbrev pub c_step : Limits → List CFunction → CState → CStep
-c_step z us c = done_in z c (slice_get us c.function)
+abbrev pub c_step : RunSetting → List CFunction → CState → CStep
+c_step z us c = done_in z us c (slice_get us c.function)

@@ -1,112 +1,100 @@
--- A step of a straight statement is the machine's step: the same effect, and what stood for the
--- machine's state before stands for it after. It is never undefined.
-use Rattle.std.specs.Prelude.{◌≡◌, ◌≤◌, ◌<◌, ◌^◌, ℕ, ℤ, pos, List, length, true, Some, None, map}
-use Rattle.std.specs.Prelude.{FitsSigned, slice_index_or, slice_get}
-use Rattle.std.specs.Int.{w64}
+-- The run of the printed functions of a transaction is the machine's run: the runtime does the same
+-- to the pool, in the same order, and the run ends alike after as many statements as the machine
+-- needs instructions. C gives it a meaning at each step.
+use Rattle.std.specs.Prelude.{◌≡◌, ◌<◌, ℕ, ◌-◌, ℤ, Bool, true, false, List, [], ◌∷◌, length, map}
+use Rattle.std.specs.Prelude.{Some, slice_get}
+use Rattle.std.specs.List.{AllByRecursion, flat_map}
 use Rattle.cache_model.specs.Cache.{Words}
 use Rattle.pool_layout.specs.Sizes.{heap_words}
 use Rattle.pool_map.specs.Trap.{trap_number}
 use Rattle.nvm_base.specs.Operations.{unsigned}
-use Rattle.pm_machine.specs.declared.op.Op.{Op}
-use Rattle.pm_machine.specs.declared.op.Op.TheVariants.{Const, Mov, Bin, Jmp, Jz, Load, Store, Find}
-use Rattle.pm_machine.specs.declared.op.Op.TheVariants.{Log, Flush, Fence, Call, Ret, Tick, Trap}
-use Rattle.pm_machine.specs.declared.op.Op.TheVariants.{Halt}
+use Rattle.nvm_base.specs.Wrap.{IsWord}
+use Rattle.pm_machine.specs.declared.op.Op.TheVariants.{Const, Load, Store, Log, Call, Halt}
 use Rattle.pm_machine.specs.declared.op.Function.{Function}
 use Rattle.pm_machine.specs.declared.effect.Effect.{Effect}
 use Rattle.pm_machine.specs.declared.effect.Effect.TheVariants.{Loads, Scans, Stores, Logs, Flushes}
 use Rattle.pm_machine.specs.declared.effect.Effect.TheVariants.{Fences, Quiet}
-use Rattle.pm_machine.specs.declared.effect.End.TheVariants.{Trapped}
+use Rattle.pm_machine.specs.declared.effect.End.TheVariants as end
 use Rattle.pm_machine.specs.declared.image.Image.{Image}
-use Rattle.pm_machine.specs.Checked.{op_is_there, bad_of}
-use Rattle.pm_machine.specs.Effects.{heap_past, records_past}
-use Rattle.pm_machine.specs.Machine as machine
-use Rattle.pm_machine.specs.Machine.{State, StepOutcome, execute, decide}
-use Rattle.c_fragment.specs.Meaning.{PoolStep, Nothing, Stored, Recorded, Flushed, Fenced, CState}
-use Rattle.c_fragment.specs.Meaning.{CStep, Goes, Traps, Limits, c_does, c_step}
-use Rattle.c_fragment.specs.Translation.{statement_of, c_function}
+use Rattle.pm_machine.specs.Machine.{Run, Unfinished, Finished, fetch_in, mrun}
+use Rattle.pm_machine.specs.Runs.{owed}
+use Rattle.pm_machine.specs.Transactions.{entry_function}
+use Rattle.abort_law.specs.Machine.{mrun_marked}
+use Rattle.c_fragment.specs.State.{RunSetting, PoolStep, Stored, Recorded, Flushed, Fenced}
+use Rattle.c_fragment.specs.Runs.{CRun, GoesOn, Returned, Trapped, c_call}
+use Rattle.c_fragment.specs.Events.{c_events}
+use Rattle.c_fragment.specs.Translation.{c_function}
 
--- each declared variable is the machine's register modulo 2^64
-abbrev pub Hold : List ℕ → List ℤ → Type 0
-Hold rs ms = (r : ℕ) → r < length rs
-    → slice_index_or rs r 0 ≡ unsigned (slice_index_or ms r (pos 0))
+-- what the runtime does to the pool in an effect; words are taken modulo 2^64
+abbrev pub played_by : Effect → List PoolStep
+played_by (Loads w) = []
+played_by (Scans w m) = []
+played_by (Stores w x) = Stored w (unsigned x) ∷ []
+played_by (Logs w) = Recorded w ∷ []
+played_by (Flushes l) = Flushed l ∷ []
+played_by Fences = Fenced ∷ []
+played_by Quiet = []
 
-abbrev pub RegistersFit : List ℤ → Type 0
-RegistersFit ms = (r : ℕ) → FitsSigned w64 (slice_index_or ms r (pos 0))
+-- the machine's run, in terms of C
+abbrev pub run_shown : Run → CRun
+run_shown Unfinished = GoesOn
+run_shown (Finished (end.Halted v) es) = Returned (unsigned v) (flat_map played_by es)
+run_shown (Finished (end.Trapped kind) es) =
+    Trapped (trap_number kind) (flat_map played_by es)
 
--- the world stands for the machine's state, heap and number of records
-pub record Mirrors (memory : Words) (n : ℕ) (s : State) (c : CState) : Type 0 where
-  pub function : c.function ≡ s.top.function
-  pub place : c.place ≡ s.top.place
-  pub fits : length c.registers ≤ length s.top.registers
-  pub registers : Hold c.registers s.top.registers
-  pub words : RegistersFit s.top.registers
-  pub ticks : c.ticks ≡ s.ticks
-  pub dirty : c.dirty ≡ s.dirty
-  pub records : c.records ≡ n
-  pub heap : (w : ℕ) → c.heap w ≡ unsigned (memory w)
-  pub heap_words : (w : ℕ) → FitsSigned w64 (memory w)
+-- The constants in the code are words, and no function that is called has a HALT.
+pub record IsPrintable (us : List Function) : Type 0 where
+  pub const : (f p r : ℕ) (v : ℤ) → fetch_in p (slice_get us f) ≡ Some (Const r v) → IsWord v
+  pub load : (f p r a : ℕ) (o : ℤ) → fetch_in p (slice_get us f) ≡ Some (Load r a o) → IsWord o
+  pub store : (f p a b : ℕ) (o : ℤ) → fetch_in p (slice_get us f) ≡ Some (Store a o b) → IsWord o
+  pub log : (f p a : ℕ) (o : ℤ) → fetch_in p (slice_get us f) ≡ Some (Log a o) → IsWord o
+  pub returns : (f p r g : ℕ) (args : List ℕ) → fetch_in p (slice_get us f) ≡ Some (Call r g args)
+      → (q a : ℕ) → fetch_in q (slice_get us g) ≡ Some (Halt a) → ⊥
 
--- what the runtime is called for in an effect
-abbrev pub played_by : Effect → PoolStep
-played_by (Loads w) = Nothing
-played_by (Scans w m) = Nothing
-played_by (Stores w x) = Stored w (unsigned x)
-played_by (Logs w) = Recorded w
-played_by (Flushes l) = Flushed l
-played_by Fences = Fenced
-played_by Quiet = Nothing
+abbrev pub tx_function : Image → ℕ → ℕ
+tx_function image tx = entry_function (slice_get image.parts.txs (tx - 1))
 
--- the two steps go on alike, or both end with the same trap
-abbrev pub StepsAgree : Words → ℕ → StepOutcome → CStep → Type 0
-StepsAgree heap n (machine.Goes e t) (Goes p d) =
-    (p ≡ played_by e) × Mirrors (heap_past heap e) (records_past n e) t d
-StepsAgree heap n (machine.Ends (Trapped kind)) (Traps k) = k ≡ trap_number kind
-StepsAgree heap n _ _ = ⊥
+abbrev pub setting_of : Image → Bool → RunSetting
+setting_of image rolls_back = record { sizes = image.parts.sizes; rolls_back = rolls_back }
 
--- all instructions but searches, calls and returns; their constants are words
-abbrev pub IsStraight : Op → Type 0
-IsStraight (Const r v) = FitsSigned w64 v
-IsStraight (Mov r a) = Unit
-IsStraight (Bin op r a b) = Unit
-IsStraight (Jmp t) = Unit
-IsStraight (Jz a t) = Unit
-IsStraight (Load r a o) = FitsSigned w64 o
-IsStraight (Store a o b) = FitsSigned w64 o
-IsStraight (Find r) = ⊥
-IsStraight (Log a o) = FitsSigned w64 o
-IsStraight Flush = Unit
-IsStraight Fence = Unit
-IsStraight (Call r f args) = ⊥
-IsStraight (Ret a) = ⊥
-IsStraight Tick = Unit
-IsStraight (Trap k) = Unit
-IsStraight (Halt a) = ⊥
+-- the run of the printed function of a transaction, of at most k statements
+abbrev pub printed_run : Image → Bool → ℕ → Words → ℕ → List ℤ → CRun
+printed_run image rolls_back k heap tx args =
+    c_call (setting_of image rolls_back) (map c_function image.parts.functions) k
+    (tx_function image tx) (map unsigned args) (λ w. unsigned (heap w))
 
-abbrev pub limits_of : Image → Limits
-limits_of image = record {
-  heap_words = heap_words image.parts.sizes;
-  records = image.parts.sizes.records;
-}
+-- the transaction has a function with as many parameters, and arguments and heap hold words
+pub record CanBegin (image : Image) (heap : Words) (tx : ℕ) (args : List ℤ) : Type 0 where
+  pub code : IsPrintable image.parts.functions
+  pub function : Function
+  pub found : slice_get image.parts.functions (tx_function image tx) ≡ Some function
+  pub parameters : function.parameters ≡ length args
+  pub arguments : AllByRecursion IsWord args
+  pub words : (w : ℕ) → w < heap_words image.parts.sizes → IsWord (heap w)
 
--- in a function of m instructions, whose variables are those that the world declares
-abbrev pub StraightLaw : Type 0
-StraightLaw =
-    (image : Image) (us : List Function) (m : ℕ) (op : Op) (heap : Words) (n : ℕ) (s : State)
-    (c : CState) → heap_words image.parts.sizes ≤ 2 ^ 63 → s.top.place < m
-    → IsStraight op
-    → op_is_there us (length c.registers) m op ≡ true → Mirrors heap n s c →
-    StepsAgree heap n (execute image heap n s (Some op)) (c_does (limits_of image) m c
-    (statement_of s.top.place op))
+-- of a transaction that doesn't roll back
+abbrev pub PrintedRunLaw : Type 0
+PrintedRunLaw =
+    (image : Image) (k : ℕ) (heap : Words) (tx : ℕ) (args : List ℤ) → CanBegin image heap tx args
+    → printed_run image false k heap tx args ≡ run_shown (mrun image k heap tx args)
 
--- The same of what the machine and the printed functions do next, for an image that keeps its
--- rules: at each place of its code, where C declares the function's registers.
-abbrev pub CodeLaw : Type 0
-CodeLaw =
-    (image : Image) (u : Function) (op : Op) (heap : Words) (n : ℕ) (s : State) (c : CState)
-    → heap_words image.parts.sizes ≤ 2 ^ 63
-    → bad_of image.parts.functions 0 image.parts.functions ≡ None
-    → slice_get image.parts.functions s.top.function ≡ Some u
-    → slice_get u.code s.top.place ≡ Some op → IsStraight op → length c.registers ≡ u.registers
-    → Mirrors heap n s c →
-    StepsAgree heap n (decide image n s heap)
-    (c_step (limits_of image) (map c_function image.parts.functions) c)
+-- of a transaction that rolls back
+abbrev pub PrintedMarkedLaw : Type 0
+PrintedMarkedLaw =
+    (image : Image) (k : ℕ) (heap : Words) (tx : ℕ) (args : List ℤ) → CanBegin image heap tx args
+    → printed_run image true k heap tx args ≡ run_shown (mrun_marked image k heap tx args)
+
+-- The events of the device are those that are due of the machine's run.
+abbrev pub PrintedEventsLaw : Type 0
+PrintedEventsLaw =
+    (image : Image) (a k : ℕ) (heap : Words) (tx : ℕ) (args : List ℤ)
+    → CanBegin image heap tx args
+    → c_events image.parts.sizes a (λ w. unsigned (heap w)) (printed_run image false k heap tx args)
+    ≡ (owed image.parts.sizes a 0 heap (mrun image k heap tx args)).events
+
+abbrev pub MarkedEventsLaw : Type 0
+MarkedEventsLaw =
+    (image : Image) (a k : ℕ) (heap : Words) (tx : ℕ) (args : List ℤ)
+    → CanBegin image heap tx args
+    → c_events image.parts.sizes a (λ w. unsigned (heap w)) (printed_run image true k heap tx args)
+    ≡ (owed image.parts.sizes a 0 heap (mrun_marked image k heap tx args)).events

@@ -1,15 +1,18 @@
-//! One step of a statement is one step of the machine, for instructions that stay in their
-//! function and reach one word at most. It rests on `pm_machine` and `c_fragment`. Its one contract
-//! for the crates above: the law of `specs/Law.antt`.
+//! The run of the printed functions of a transaction is the machine's, also where a trap rolls it
+//! back. It rests on `pm_machine`, `c_fragment` and the marked run of `abort_law`. Its one contract
+//! for the crates above: the laws of `specs/Law.antt`.
 #![tactic(auto)]
 
-ghost use Rattle.step_law.specs.Law.{StraightLaw, CodeLaw};
+ghost use Rattle.step_law.specs.Law.{PrintedRunLaw, PrintedMarkedLaw};
+ghost use Rattle.step_law.specs.Law.{PrintedEventsLaw, MarkedEventsLaw};
 
 use nvm_base::BinOp;
 use pm_machine::Op;
 
-/// A step of a straight statement is the machine's. The function does nothing.
+/// The run of the printed functions is the machine's. The function does nothing.
 pub fn law()
-    ensures straight { StraightLaw }
-    ensures code { CodeLaw }
+    ensures run { PrintedRunLaw }
+    ensures marked { PrintedMarkedLaw }
+    ensures events { PrintedEventsLaw }
+    ensures marked_events { MarkedEventsLaw }
 {}

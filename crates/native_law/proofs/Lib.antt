@@ -1,0 +1,4 @@
+pub mod Fits
+pub mod Codes
+pub mod Printable
+pub mod Calls
