@@ -1,11 +1,14 @@
 -- What a crash leaves is an image.
 use Rattle.std.proofs.Common.{◌≡◌, inl, inr, ℕ, ◌/◌, ◌<◌, ◌≤◌, nat_lt, Bool, true, false, ℤ, List}
-use Rattle.std.proofs.Common.{[], refl, ap, cond, sym, ◌∙◌, subst}
+use Rattle.std.proofs.Common.{[], refl, ap, cond, sym, ◌∙◌, subst, ◌+◌, ◌*◌, arith, Option, Some}
+use Rattle.std.proofs.Common.{None, pos}
+use Rattle.std.specs.Prelude.{slice_index_or}
 use Rattle.std.proofs.lemmas.Bool.{ltb-false, ltb-true, lt-ltb, le-ltb}
-use Rattle.cache_model.specs.Cache.{Words, Memory}
+use Rattle.cache_model.specs.Cache.{Words, Memory, view}
 use Rattle.cache_model.specs.Image.{IsVersion, IsImage}
 use Rattle.file_pmem.specs.File.{Copies, FileLines, MayLeave, AmongCopies, IsCopy, AgreesAt}
-use Rattle.file_pmem.specs.Mirror.{CoversCopies, IsHeld, MarksFit, Mirrors}
+use Rattle.file_pmem.specs.File.{HoldsWords}
+use Rattle.file_pmem.specs.Mirror.{CoversCopies, IsHeld, MarksFit, Mirrors, IsMirror}
 use Rattle.file_pmem.proofs.Lines.{newest_fenced}
 
 -- what a crash leaves, and past the last line what the device has
@@ -77,3 +80,19 @@ attach f m settled same marks = record {
   ahead = λ l lt. ((m.cache l).newest, newest_fenced (m.cache l), same l lt);
   marks = marks;
 }
+
+word_in : (l n p : ℕ) → l < n → p / 8 ≡ l → p < 8 * n
+word_in l n p lt e =
+    let place : p < 8 * (p / 8) + 8 = omega arith in
+    let near : p < 8 * l + 8 = subst (λ (k : ℕ). p < 8 * k + 8) e place in
+    omega arith
+
+pub holds : (a : Option FileLines) (m : Memory) (words : List ℤ) → HoldsWords a m.lines words
+    → ((p : ℕ) → p < 8 * m.lines → view m.cache p ≡ slice_index_or words p (pos 0)) → MarksFit m
+    → IsMirror a m
+unfolding view
+holds None m words h same marks = tt
+holds (Some f) m words h same marks = attach f m h.0
+    (λ l lt p e. h.1 l lt p e ∙ sym (same p (word_in l m.lines p lt e))
+    ∙ ap (λ (k : ℕ). (m.cache k).newest p) e)
+    marks

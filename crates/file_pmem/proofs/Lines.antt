@@ -1,5 +1,5 @@
 -- What a store, a flush and a fence leave among the versions of a line.
-use Rattle.std.proofs.Common.{◌≡◌, inl, inr, ℕ, zero, suc, ◌+◌, ◌≤◌, List, [], ◌∷◌, ◌++◌, drop}
+use Rattle.std.proofs.Common.{◌≡◌, inl, inr, ℕ, zero, suc, ◌≤◌, List, [], ◌∷◌, ◌++◌, drop}
 use Rattle.std.proofs.Common.{length, Option, Some, None, ℤ, refl, arith, sym, subst}
 use Rattle.cache_model.specs.Cache.{Words, Line}
 use Rattle.cache_model.specs.Play.{store_line, flush_line, fence_at, fence_line, mark_of}

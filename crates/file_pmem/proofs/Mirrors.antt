@@ -1,5 +1,5 @@
 -- A mirror is kept by each event: a flush that writes its line first, and a fence that syncs first.
-use Rattle.std.proofs.Common.{◌≡◌, ◌⊎◌, inl, ⊎_elim, ℕ, ◌/◌, ◌≤◌, ◌==◌, Bool, true, false, List}
+use Rattle.std.proofs.Common.{◌≡◌, inl, ⊎_elim, ℕ, ◌/◌, ◌≤◌, ◌==◌, Bool, true, false, List}
 use Rattle.std.proofs.Common.{length, Option, Some, None, ℤ, refl, ap, cond, sym, ◌∙◌, subst}
 use Rattle.std.proofs.Common.{eqb-true}
 use Rattle.cache_model.specs.Event.{Store, Flush, Fence}
@@ -9,6 +9,7 @@ use Rattle.cache_model.specs.Image.{IsVersion}
 use Rattle.file_pmem.specs.File.{Copies, FileLines, IsCopy, AgreesAt, StaysFile, WritesFile}
 use Rattle.file_pmem.specs.File.{SyncsFile, file_written, file_synced}
 use Rattle.file_pmem.specs.Mirror.{IsHeld, CoversCopies, IsAhead, Mirrors, IsMirror, IsFileCovered}
+use Rattle.file_pmem.specs.Mirror.{MarksFit}
 use Rattle.file_pmem.proofs.Lines.{stored_version, stored_fenced, newest_fenced, fenced_again}
 use Rattle.file_pmem.proofs.Lines.{flushed_mark, fenced_mark, stored_mark}
 use Rattle.file_pmem.proofs.Copies.{written_copy, written_newest, written_at, synced_copy}
@@ -86,6 +87,10 @@ stored_mark_of : (b : Bool) (y : Line) (p : ℕ) (x : ℤ) (k : ℕ)
 stored_mark_of true y p x k fits e = stored_mark y p x k (fits e)
 stored_mark_of false y p x k fits e = fits e
 
+pub store_marks : (m : Memory) (p : ℕ) (x : ℤ) → MarksFit m → MarksFit (after m (Store p x))
+unfolding apply
+store_marks m p x h l k e = stored_mark_of (l == p / 8) (m.cache l) p x k (h l k) e
+
 store_mirrors : (f : FileLines) (m : Memory) (p : ℕ) (x : ℤ) → Mirrors f m
     → Mirrors f (after m (Store p x))
 unfolding apply
@@ -96,7 +101,7 @@ store_mirrors f m p x h = record {
   ahead = λ l lt. more_held (fence_line (m.cache l))
       (fence_line (cond (l == p / 8) (store_line (m.cache l) p x) (m.cache l))) l (f l).newest
       (λ u is. stored_fence_of (l == p / 8) (m.cache l) p x u (h.marks l) is) (h.ahead l lt);
-  marks = λ l k e. stored_mark_of (l == p / 8) (m.cache l) p x k (h.marks l k) e;
+  marks = store_marks m p x h.marks;
 }
 
 flushed_of : (b : Bool) (y : Line) (u : Words) → IsVersion y u
@@ -115,6 +120,10 @@ flushed_ahead_of : (b : Bool) (y : Line) (l : ℕ) (v : List ℤ) → (b ≡ tru
 flushed_ahead_of true y l v is h = (y.newest, newest_fenced (flush_line y), is refl)
 flushed_ahead_of false y l v is h = h
 
+pub flush_marks : (m : Memory) (k : ℕ) → MarksFit m → MarksFit (after m (Flush k))
+unfolding apply
+flush_marks m k h l j e = flushed_mark_of (l == k) (m.cache l) j (h l j) e
+
 flush_mirrors : (f : FileLines) (m : Memory) (k : ℕ) → AgreesAt k (f k).newest (m.cache k).newest
     → Mirrors f m → Mirrors f (after m (Flush k))
 unfolding apply
@@ -125,8 +134,12 @@ flush_mirrors f m k same h = record {
       (λ e. subst (λ (j : ℕ). AgreesAt j (f j).newest (m.cache j).newest)
       (sym (eqb-true l k e)) same)
       (h.ahead l lt);
-  marks = λ l j e. flushed_mark_of (l == k) (m.cache l) j (h.marks l j) e;
+  marks = flush_marks m k h.marks;
 }
+
+pub fence_marks : (m : Memory) → MarksFit (after m Fence)
+unfolding apply
+fence_marks m l k e = absurd (fenced_mark (m.cache l) k e)
 
 -- where the file has the newest copies alone, a fence may drop what is older than its marks
 fence_mirrors : (f : FileLines) (m : Memory) → Mirrors f m → Mirrors (file_synced f) (after m Fence)
@@ -136,7 +149,7 @@ fence_mirrors f m h = record {
       (sym (synced_copy (f l) v copy)) (h.ahead l lt);
   ahead = λ l lt. more_held (fence_line (m.cache l)) (fence_line (fence_line (m.cache l))) l
       (f l).newest (λ u is. fenced_again (m.cache l) u is) (h.ahead l lt);
-  marks = λ l k e. absurd (fenced_mark (m.cache l) k e);
+  marks = fence_marks m;
 }
 
 -- Files that may show clauses nothing

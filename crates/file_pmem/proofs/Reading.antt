@@ -1,10 +1,11 @@
 -- The words of a file, read line after line.
-use Rattle.std.proofs.Common.{◌≡◌, ◌⊎◌, ⊎_elim, ℕ, ◌+◌, ◌-◌, ◌*◌, ◌/◌, ◌%◌, ◌<◌, List, [], ◌++◌, ℤ}
+use Rattle.std.proofs.Common.{◌≡◌, ⊎_elim, ℕ, ◌+◌, ◌*◌, ◌/◌, ◌%◌, ◌<◌, List, [], ◌++◌, ℤ}
 use Rattle.std.proofs.Common.{pos, ap, sym, ◌∙◌, subst, arith, length, get_or, Option, Some, None}
 use Rattle.std.proofs.lemmas.Bool.{cases_eq}
 use Rattle.std.proofs.lemmas.List.{get_or_append_left, get_or-append-add}
 use Rattle.file_pmem.specs.File.{Copies, FileLines, AgreesAt, StaysFile, ReadsFile, HoldsWords}
-use Rattle.file_pmem.specs.File.{SyncsFile}
+use Rattle.file_pmem.specs.File.{SyncsFile, HoldsNewest}
+use Rattle.file_pmem.specs.inside.Reading.{KeepsNewest}
 
 -- the first n lines were read, and nothing older is left
 pub read_none : (a b : Option FileLines) → SyncsFile a b → HoldsWords b 0 []
@@ -42,4 +43,29 @@ read_line_more (Some f) (Some g) n ws v len is stays h = (
 read_line_more None (Some g) n ws v len is stays h = absurd stays
 read_line_more (Some f) None n ws v len is stays h = absurd stays
 
-pub ruleset reading = (read_none, read_line_more)
+-- a sync and a read leave the newest copies
+
+pub newest_synced : (a b : Option FileLines) → SyncsFile a b → KeepsNewest a b
+newest_synced None None is = tt
+newest_synced (Some f) (Some g) is = λ k. ap (λ (y : Copies). y.newest) (is k)
+newest_synced None (Some g) is = absurd is
+newest_synced (Some f) None is = absurd is
+
+pub newest_stays : (a b c : Option FileLines) → StaysFile b c → KeepsNewest a b → KeepsNewest a c
+newest_stays None None None is h = tt
+newest_stays (Some f) (Some g) (Some k) is h =
+    λ l. ap (λ (y : Copies). y.newest) (is l) ∙ h l
+newest_stays None None (Some k) is h = absurd is
+newest_stays (Some f) (Some g) None is h = absurd is
+newest_stays None (Some g) c is h = absurd h
+newest_stays (Some f) None c is h = absurd h
+
+pub newest_held : (a b : Option FileLines) (n : ℕ) (ws : List ℤ) → KeepsNewest a b
+    → HoldsWords b n ws → HoldsNewest a n ws
+newest_held None b n ws is h = tt
+newest_held (Some f) None n ws is h = absurd is
+newest_held (Some f) (Some g) n ws is h = λ l lt.
+    subst (λ (x : List ℤ). AgreesAt l x (λ p. get_or ws p (pos 0))) (is l) (h.1 l lt)
+
+pub ruleset reading =
+    (read_none, read_line_more, newest_synced, newest_stays, newest_held)

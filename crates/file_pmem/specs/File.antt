@@ -86,3 +86,9 @@ abbrev pub HoldsWords : Option FileLines → ℕ → List ℤ → Type 0
 HoldsWords None n words = Unit {0}
 HoldsWords (Some f) n words = ((l : ℕ) → (f l).older ≡ [])
     × ((l : ℕ) → l < n → AgreesAt l (f l).newest (λ p. slice_index_or words p (pos 0)))
+
+-- The newest copies of the first n lines are these words, in order.
+abbrev pub HoldsNewest : Option FileLines → ℕ → List ℤ → Type 0
+HoldsNewest None n words = Unit {0}
+HoldsNewest (Some f) n words =
+    (l : ℕ) → l < n → AgreesAt l (f l).newest (λ p. slice_index_or words p (pos 0))

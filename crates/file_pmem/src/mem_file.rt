@@ -1,10 +1,11 @@
 //! A file of lines in memory, with each copy that a crash may leave. It fails at chosen calls.
 
 ghost use Rattle.std.specs.Prelude.{◌≡◌, ◌≤◌, [], Some, true, IfOk, IfSome, OnOk, OnErr};
-ghost use Rattle.std.specs.Prelude.{replicate};
+ghost use Rattle.std.specs.Prelude.{replicate, length, ◌/◌};
 ghost use Rattle.std.specs.Prelude.{pos, map};
 ghost use Rattle.nvm_base.specs.Rose.{Rose};
 ghost use Rattle.file_pmem.specs.File.{WritesFile, IsZeroFile, more_copies, settled_copies};
+ghost use Rattle.file_pmem.specs.File.{HoldsWords};
 ghost use Rattle.file_pmem.specs.MemFile.{lines_from};
 
 use crate::file::{FileAnswer, LineFile};
@@ -34,6 +35,19 @@ impl FileLine {
         FileLine {
             older: Vec::new(alloc),
             newest: [0; 8],
+        }
+    }
+
+    /// One copy, of these words.
+    fn of(alloc: Global, words: &[i64]) -> Self
+        requires { length words.now ≡ 8 }
+        ensures { result ≡ record { older = []; newest = words.now } }
+    {
+        let mut newest = [0; 8];
+        newest.copy_from_slice(words);
+        FileLine {
+            older: Vec::new(alloc),
+            newest,
         }
     }
 
@@ -104,6 +118,22 @@ impl MemFile {
         })
     }
 
+    /// These words, line after line, with nothing older. It fails no call. Words past the last
+    /// whole line are left out.
+    pub fn of_words(alloc: Global, words: &[i64]) -> Result<Self, AllocError>
+        ensures holds { IfOk result (λ f. HoldsWords (Some (lines_from f.lines))
+            (length words.now / 8) words.now) }
+        ensures faults { IfOk result (λ f. f.faults ≡ 0) }
+    {
+        let lines = lines_of(alloc, words)?;
+        Ok(MemFile {
+            lines,
+            fail: Vec::new(alloc),
+            calls: 0,
+            faults: 0,
+        })
+    }
+
     /// A copy of a line that a crash may leave, counted from the oldest.
     pub fn copy(&self, line: u64, at: u64) -> Option<[i64; 8]> {
         match self.lines.get(line as usize) {
@@ -167,6 +197,18 @@ fn blank_lines(alloc: Global, count: u64) -> Result<Vec<FileLine>, AllocError>
     let mut lines = Vec::new(alloc);
     for _ in 0..count {
         lines.push(FileLine::blank(alloc))?;
+    }
+    Ok(lines)
+}
+
+/// Lines of these words.
+fn lines_of(alloc: Global, words: &[i64]) -> Result<Vec<FileLine>, AllocError>
+    ensures { IfOk result (λ v. HoldsWords (Some (lines_from v.items))
+        (length words.now / 8) words.now) }
+{
+    let mut lines = Vec::new(alloc);
+    for line in 0..words.len() / 8 {
+        lines.push(FileLine::of(alloc, &words[8 * line..8 * line + 8]))?;
     }
     Ok(lines)
 }

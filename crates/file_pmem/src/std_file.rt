@@ -75,6 +75,16 @@ fn bytes_of(words: &[i64; 8]) -> [u8; 64] {
     bytes
 }
 
+/// Writes words, line after line. Those past the last whole line are left out.
+pub(crate) fn write_lines<F: FileExt>(file: &F, words: &[i64]) -> io::Result<()> {
+    for line in 0..words.len() / 8 {
+        let mut copy = [0; 8];
+        copy.copy_from_slice(&words[8 * line..8 * line + 8]);
+        file.write_all_at(&bytes_of(&copy), place_of(line as u64))?;
+    }
+    Ok(())
+}
+
 /// The words of a line's bytes.
 fn words_of(bytes: &[u8; 64]) -> [i64; 8] {
     let mut words = [0; 8];

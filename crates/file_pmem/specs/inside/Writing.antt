@@ -1,8 +1,10 @@
 -- Lines that are written one after another.
-use Rattle.std.specs.Prelude.{ℕ, ◌/◌, ◌<◌, ◌≡◌, ◌⊎◌, Bool, true, false, List, ℤ, Option, Some, None}
+use Rattle.std.specs.Prelude.{ℕ, ◌/◌, ◌<◌, ◌≡◌, ◌⊎◌, Bool, true, List, ℤ, Option, Some, None}
 use Rattle.cache_model.specs.Cache.{Words, Memory}
 use Rattle.cache_model.specs.Image.{IsVersion}
 use Rattle.file_pmem.specs.File.{FileLines, AgreesAt, StaysFile, WritesFile}
+use Rattle.file_pmem.specs.declared.link.MirrorState.{MirrorState}
+use Rattle.file_pmem.specs.declared.link.MirrorState.TheVariants.{Awake}
 
 -- the newest copies of the lines before `at` are the newest versions of the memory
 abbrev pub AreNewest : Option FileLines → Memory → ℕ → Type 0
@@ -18,8 +20,8 @@ IsOneOf m n = (l : ℕ) → l < m.lines → (u : Words) × IsVersion (m.cache l)
 abbrev pub WroteNewest : Option FileLines → ℕ → Option FileLines → Memory → Type 0
 WroteNewest a l b m = (w : List ℤ) × AgreesAt l w (m.cache l).newest × WritesFile a l w b
 
--- The same where it was asked for and the file isn't lost; else it was written or nothing was.
-abbrev pub WritesNewest : (asked lost : Bool) → Option FileLines → ℕ → Option FileLines → Memory
-    → Type 0
-WritesNewest asked lost a l b m = (asked ≡ true → lost ≡ false → WroteNewest a l b m)
+-- The same where it was asked for and the file is awake; else it was written or nothing was.
+abbrev pub WritesNewest : (asked : Bool) → MirrorState → Option FileLines → ℕ → Option FileLines
+    → Memory → Type 0
+WritesNewest asked s a l b m = (asked ≡ true → s ≡ Awake → WroteNewest a l b m)
     × (StaysFile a b ⊎ WroteNewest a l b m)
