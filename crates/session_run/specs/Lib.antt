@@ -1,5 +1,6 @@
 pub mod AsStatus
 pub mod Commands
+pub mod Held
 pub mod Made
 pub mod Saved
 pub mod StatusNumber

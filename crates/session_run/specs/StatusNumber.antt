@@ -13,3 +13,4 @@ status_number status.ReadFault = 5
 status_number status.WriteFault = 6
 status_number status.DeviceFault = 7
 status_number status.Image = 8
+status_number status.PoolBusy = 9

@@ -1,47 +1,72 @@
 //! Runs commands on the pool of a file.
 
-ghost use Rattle.std.specs.Prelude.{◌≡◌, ◌≢◌, ◌⊎◌, ◌*◌, ◌<◌, pos, slice_index_or, OnOk, OnErr};
-ghost use Rattle.std.specs.Prelude.{IsErrOf};
+ghost use Rattle.std.specs.Prelude.{◌≡◌, ◌≢◌, ◌≤◌, ◌*◌, OnOk, IfErr, IsErrOf};
+ghost use Rattle.std.specs.Io.KnownBytes.{Appends};
 ghost use Rattle.nvm_base.specs.Rose.{Rose};
+ghost use Rattle.cache_model.specs.Cache.{view};
+ghost use Rattle.pm_machine.specs.HeapPool.{words_from};
 ghost use Rattle.pool_layout.specs.Sizes.{pool_lines};
+ghost use Rattle.cnvm_session.specs.declared.mode.Mode.TheVariants.{Ready};
 ghost use Rattle.file_pmem.specs.File.{HoldsWords};
-ghost use Rattle.file_pmem.specs.Mirror.{file_device, IsMirror};
-ghost use Rattle.session_run.specs.Commands.{RunsAndWrites, RunsPart};
-ghost use Rattle.session_run.specs.Held.{RunsSome, HeldAs, IsGivenUp};
+ghost use Rattle.file_pmem.specs.Mirror.{file_device};
+ghost use Rattle.file_pmem.specs.declared.link.MirrorState.TheVariants.{Awake};
+ghost use Rattle.cnvm_session.specs.AnswerText.{answer_text};
+ghost use Rattle.session_run.specs.Commands.{RunsAndWrites};
+ghost use Rattle.session_run.specs.Held.{EndsAt, BreaksOff, status_of, HeldAs, CreatesWords};
+ghost use Rattle.session_run.specs.Held.{NewAs};
 
+use crate::image::words_of;
 use crate::status::Status;
 use crate::writing::{Unwritten, put_answer};
 use cnvm_script::{Command, Script};
-use cnvm_session::{Program, Session, StartFault, Traps, open_pool, resume};
+use cnvm_session::{Answer, Program, Session, StartFault, Traps, create, open_pool, resume};
 use file_pmem::{FilePmem, LineFile};
-use nvm_base::{Sink, Steps};
-use pmem::Lines;
+use nvm_base::{Sink, Steps, Words, write_all};
+use pmem::{Lines, Pmem};
 use std::alloc::Global;
 use std::sync::ledger::Ledger;
+
+/// What is written first where a pool's file was made.
+const CREATED: &str = "created\n";
 
 /// Why not all commands were answered.
 #[derive(Clone, Copy, PartialEq, Eq)]
 pub(crate) enum Unheld {
+    /// There was no memory for the lines of the answer at hand.
+    NoMemory,
     /// The answer at hand wasn't written.
-    Unwritten(Unwritten),
-    /// The answer at hand was written, and the file is given up.
+    WriteFault,
+    /// The answer at hand was written, and the device isn't mirrored in its file any more.
     GivenUp,
 }
 
-impl Unheld {
-    /// The status of a run that ends so.
-    fn status(self) -> Status {
-        match self {
-            Unheld::Unwritten(Unwritten::NoMemory) => Status::NoMemory,
-            Unheld::Unwritten(Unwritten::WriteFault) => Status::WriteFault,
-            Unheld::GivenUp => Status::DeviceFault,
-        }
+/// Writes an answer, and sees whether the device is still mirrored in its file.
+fn answer_kept<K: Sink, N: Lines + Drop, F: LineFile + Drop>(
+    alloc: Global,
+    answer: &Answer,
+    out: &mut K,
+    dev: &FilePmem<N, F>,
+) -> Result<(), Unheld>
+    ensures whole { OnOk result (Appends (K.written out.old) (K.written out.new)
+        (answer_text answer.now)) }
+    ensures broken { IfErr result (λ why. EndsAt why dev.now.link.state (K.written out.old)
+        (K.written out.new) (answer_text answer.now)) }
+    ensures kept { OnOk result (dev.now.link.state ≡ Awake) }
+    ensures write { IsErrOf result Unheld.WriteFault
+        → Rose (K.faults out.old) (K.faults out.new) }
+    ensures count { K.faults out.old ≤ K.faults out.new }
+{
+    match put_answer(alloc, answer, out) {
+        Err(Unwritten::NoMemory) => Err(Unheld::NoMemory),
+        Err(Unwritten::WriteFault) => Err(Unheld::WriteFault),
+        Ok(()) if dev.keeps() => Ok(()),
+        Ok(()) => Err(Unheld::GivenUp),
     }
 }
 
 /// Runs the commands in order, and writes each answer before the next command. It ends at the
 /// first answer after which the device isn't mirrored in its file.
-pub(crate) fn answer_held<K: Sink, N: Lines + Drop, F: LineFile + Drop, L: Ledger>(
+fn answer_held<K: Sink, N: Lines + Drop, F: LineFile + Drop, L: Ledger>(
     alloc: Global,
     program: &Program,
     commands: &[Command],
@@ -51,30 +76,156 @@ pub(crate) fn answer_held<K: Sink, N: Lines + Drop, F: LineFile + Drop, L: Ledge
     dev: &mut FilePmem<N, F>,
     steps: &mut Steps<L>,
 ) -> Result<(), Unheld>
-    requires lines { (file_device dev.old).lines ≡ pool_lines program.now.image.parts.sizes }
+    requires lines { (file_device N.memory dev.old).lines
+        ≡ pool_lines program.now.image.parts.sizes }
+    requires awake { dev.old.link.state ≡ Awake }
     ensures whole { OnOk result (RunsAndWrites program.now commands.now session.old
-        (file_device dev.old) (K.written out.old) steps.old (file_device dev.new)
+        (file_device N.memory dev.old) (K.written out.old) steps.old (file_device N.memory dev.new)
         (K.written out.new) steps.new) }
-    ensures part { IsUnwritten result (RunsPart program.now commands.now session.old
-        (file_device dev.old) (K.written out.old) steps.old (file_device dev.new)
-        (K.written out.new) steps.new) }
-    ensures some { IsErrOf result Unheld.GivenUp → RunsSome program.now commands.now session.old
-        (file_device dev.old) (K.written out.old) steps.old (file_device dev.new)
-        (K.written out.new) steps.new }
-    ensures given_up { IsErrOf result Unheld.GivenUp → IsGivenUp dev.new }
-    ensures write { IsErrOf result (Unheld.Unwritten Unwritten.WriteFault)
+    ensures broken { IfErr result (λ why. BreaksOff why dev.new.link.state program.now commands.now
+        session.old (file_device N.memory dev.old) (K.written out.old) steps.old
+        (file_device N.memory dev.new) (K.written out.new) steps.new) }
+    ensures kept { OnOk result (dev.new.link.state ≡ Awake) }
+    ensures write { IsErrOf result Unheld.WriteFault
         → Rose (K.faults out.old) (K.faults out.new) }
-    ensures lines { (file_device dev.new).lines ≡ pool_lines program.now.image.parts.sizes }
+    ensures lines { (file_device N.memory dev.new).lines
+        ≡ pool_lines program.now.image.parts.sizes }
 {
     for given in commands {
         let answer = session.command(alloc, program, given, dev, steps);
         traps.saw(&answer, session);
-        if let Err(why) = put_answer(alloc, &answer, out) {
-            return Err(Unheld::Unwritten(why));
-        }
-        if !dev.keeps() {
-            return Err(Unheld::GivenUp);
+        if let Err(why) = answer_kept(alloc, &answer, out, dev) {
+            return Err(why);
         }
     }
     Ok(())
+}
+
+/// The status of a run of commands.
+fn status_of(answered: Result<(), Unheld>) -> Status
+    ensures { result ≡ status_of answered }
+{
+    match answered {
+        Ok(()) => Status::Done,
+        Err(Unheld::NoMemory) => Status::NoMemory,
+        Err(Unheld::WriteFault) => Status::WriteFault,
+        Err(Unheld::GivenUp) => Status::DeviceFault,
+    }
+}
+
+/// Opens the pool with these words, which are those of the file, mirrors it in the file, and writes
+/// how it was recovered; then runs the script's commands, and writes each answer before the next.
+pub fn run_held<K: Sink, N: Lines + Drop, F: LineFile + Drop, L: Ledger>(
+    alloc: Global,
+    program: &Program,
+    script: &Script,
+    words: &[i64],
+    file: F,
+    traps: &mut Traps,
+    out: &mut K,
+    dev: &mut FilePmem<N, F>,
+    steps: &mut Steps<L>,
+) -> Status
+    requires holds { HoldsWords (F.content file)
+        (pool_lines program.now.image.parts.sizes) words.now }
+    ensures read { result ≢ Status.ReadFault }
+    ensures usage { result ≢ Status.Usage }
+    ensures busy { result ≢ Status.PoolBusy }
+    ensures write { result ≡ Status.WriteFault → Rose (K.faults out.old) (K.faults out.new) }
+    ensures ran { HeldAs program.now script.now words.now result dev.new.link.state
+        (K.written out.old) (K.written out.new) (file_device N.memory dev.old)
+        (file_device N.memory dev.new) steps.old steps.new }
+{
+    match open_pool(program.image.sizes(), words, dev) {
+        Ok(()) => (),
+        Err(StartFault::Failed) => return Status::DeviceFault,
+        Err(StartFault::NoMemory) => return Status::NoMemory,
+    }
+    dev.know();
+    dev.hold(file);
+    dev.wake();
+    let (mut session, answer) = resume(alloc, program, dev, steps);
+    traps.saw(&answer, &session);
+    match answer_kept(alloc, &answer, out, dev) {
+        Ok(()) => {
+            let commands = script.as_slice();
+            status_of(answer_held(
+                alloc,
+                program,
+                commands,
+                &mut session,
+                traps,
+                out,
+                dev,
+                steps,
+            ))
+        }
+        Err(why) => status_of(Err(why)),
+    }
+}
+
+/// Creates a pool on a device, and gives its words.
+pub fn create_held<P: Pmem>(
+    alloc: Global,
+    program: &Program,
+    dev: &mut P,
+) -> Result<(Session, Words), StartFault>
+    ensures creates { CreatesWords program.now result (P.device dev.old) (P.device dev.new) }
+    ensures lines { OnOk result ((P.device dev.new).lines
+        ≡ pool_lines program.now.image.parts.sizes) }
+{
+    let session = match create(program, dev) {
+        Ok(session) => session,
+        Err(fault) => return Err(fault),
+    };
+    match words_of(alloc, program.image.sizes(), dev) {
+        Ok(words) => Ok((session, words)),
+        Err(_) => Err(StartFault::NoMemory),
+    }
+}
+
+/// Mirrors a new pool in the file that was made of its words, and writes that it was created; then
+/// runs the script's commands, and writes each answer before the next.
+pub fn run_new<K: Sink, N: Lines + Drop, F: LineFile + Drop, L: Ledger>(
+    alloc: Global,
+    program: &Program,
+    script: &Script,
+    mut session: Session,
+    file: F,
+    traps: &mut Traps,
+    out: &mut K,
+    dev: &mut FilePmem<N, F>,
+    steps: &mut Steps<L>,
+) -> Status
+    requires ready { session ≡ Ready }
+    requires lines { (file_device N.memory dev.old).lines
+        ≡ pool_lines program.now.image.parts.sizes }
+    requires holds { HoldsWords (F.content file) (file_device N.memory dev.old).lines
+        (words_from (view (file_device N.memory dev.old).cache) 0
+        (8 * (file_device N.memory dev.old).lines)) }
+    ensures read { result ≢ Status.ReadFault }
+    ensures usage { result ≢ Status.Usage }
+    ensures busy { result ≢ Status.PoolBusy }
+    ensures write { result ≡ Status.WriteFault → Rose (K.faults out.old) (K.faults out.new) }
+    ensures ran { NewAs program.now script.now result dev.new.link.state
+        (K.written out.old) (K.written out.new) (file_device N.memory dev.old)
+        (file_device N.memory dev.new) steps.old steps.new }
+{
+    dev.know();
+    dev.hold(file);
+    dev.wake();
+    if let Err(_) = write_all(out, CREATED.as_bytes()) {
+        return Status::WriteFault;
+    }
+    let commands = script.as_slice();
+    status_of(answer_held(
+        alloc,
+        program,
+        commands,
+        &mut session,
+        traps,
+        out,
+        dev,
+        steps,
+    ))
 }

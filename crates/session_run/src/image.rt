@@ -60,7 +60,11 @@ fn power_on<P: Pmem>(alloc: Global, dev: &mut P)
 }
 
 /// The newest version of every line.
-fn words_of<P: PmemWork>(alloc: Global, sizes: &Sizes, dev: &P) -> Result<Words, AllocError>
+pub(crate) fn words_of<P: PmemWork>(
+    alloc: Global,
+    sizes: &Sizes,
+    dev: &P,
+) -> Result<Words, AllocError>
     requires on { (P.device dev.now).on ≡ true }
     requires lines { (P.device dev.now).lines ≡ sizes_of.pool_lines sizes.now }
     ensures { IfOk result (λ words. words ≡ words_from (view (P.device dev.now).cache) 0

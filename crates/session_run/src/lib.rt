@@ -5,12 +5,14 @@
 #![tactic(auto)]
 
 mod commands;
+mod held;
 mod image;
 mod runs;
 mod status;
 mod storm;
 mod writing;
 
+pub use held::{create_held, run_held, run_new};
 pub use image::save;
 pub use runs::{run_created, run_from};
 pub use status::Status;

@@ -20,10 +20,13 @@ pub enum Status {
     ReadFault,
     /// A sink failed.
     WriteFault,
-    /// The device failed while the pool's lines were written at the start.
+    /// The device failed while the pool's lines were written at the start, or the pool's file was
+    /// given up.
     DeviceFault,
     /// The image was refused.
     Image,
+    /// Another process holds the pool's file.
+    PoolBusy,
 }
 
 impl Status {
@@ -41,6 +44,7 @@ impl Status {
             Status::WriteFault => 6,
             Status::DeviceFault => 7,
             Status::Image => 8,
+            Status::PoolBusy => 9,
         }
     }
 }

@@ -1,0 +1,188 @@
+-- Commands are run on a pool that is held by a file.
+use Rattle.std.proofs.Common.{◌≡◌, ℕ, zero, suc, ◌+◌, ◌*◌, ◌<◌, List, [], ◌∷◌, ◌++◌, Option, length}
+use Rattle.std.proofs.Common.{drop, get_or, slice_index_or, Result, Ok, Err, OnOk, IfErr, ℤ, pos, inl}
+use Rattle.std.proofs.Common.{inr, refl, ap, sym, subst, ◌∙◌, arith}
+use Rattle.std.specs.Io.KnownBytes.{Appends}
+use Rattle.cache_model.specs.Cache.{Words, Cache, Memory, blank, view}
+use Rattle.cache_model.specs.Play.{play}
+use Rattle.pmem.specs.Device.{Device, blanked}
+use Rattle.pmem.specs.Played.{PlaysAll}
+use Rattle.pmem.proofs.Refused.{all_cache}
+use Rattle.file_pmem.specs.File.{FileLines, HoldsWords}
+use Rattle.pmem.specs.Switch.{untold}
+use Rattle.pmem.specs.declared.switch.Switch.{Switch}
+use Rattle.file_pmem.specs.Mirror.{MarksFit, IsMirror, FileParts, file_device}
+use Rattle.file_pmem.specs.declared.link.MirrorState.{MirrorState}
+use Rattle.file_pmem.specs.declared.link.MirrorState.TheVariants.{Awake}
+use Rattle.file_pmem.proofs.Crashes.{holds}
+use Rattle.pm_machine.specs.HeapPool.{words_from}
+use Rattle.pool_layout.specs.declared.limits.Sizes.{Sizes}
+use Rattle.pool_layout.specs.Sizes.{pool_lines}
+use Rattle.cnvm_script.specs.declared.command.Command.{Command}
+use Rattle.cnvm_session.specs.declared.answer.Answer.{Answer}
+use Rattle.cnvm_session.specs.declared.mode.Mode.{Mode}
+use Rattle.cnvm_session.specs.declared.program.Program.{Program}
+use Rattle.cnvm_session.specs.AnswerText.{answer_text}
+use Rattle.cnvm_session.specs.Commands.{Commanded}
+use Rattle.cnvm_session.specs.Opening.{opening_events}
+use Rattle.cnvm_session.specs.Outcomes.{Opens, Recovers}
+use Rattle.cnvm_session.proofs.Writing.{written_word}
+use Rattle.session_run.specs.declared.held.Unheld.{Unheld}
+use Rattle.session_run.specs.declared.held.Unheld.TheVariants as unheld
+use Rattle.session_run.specs.declared.status.Status.{Status}
+use Rattle.session_run.specs.Commands.{RunsAndWrites, RunsPart}
+use Rattle.session_run.specs.Held.{RunsSome, EndsAt, BreaksOff, HeldAs, status_of}
+use Rattle.session_run.proofs.Running.{commands_at, part_here}
+
+-- one command is answered, and then some first ones of the rest
+pub some_more : (p : Program) (cs : List Command) (i : ℕ) (x : Command) (m m1 : Mode)
+    (d d1 d' : Device) (w w1 w' : Option (List ℕ)) (k k1 k' : ℕ) (answer : Answer)
+    → i < length cs → x ≡ get_or cs i x → Commanded p x m d answer m1 d1 k k1
+    → Appends w w1 (answer_text answer)
+    → RunsSome p (drop (i + 1) cs) m1 d1 w1 k1 d' w' k' → RunsSome p (drop i cs) m d w k d' w' k'
+some_more p cs i x m m1 d d1 d' w w1 w' k k1 k' answer less is one line rest = (
+  x ∷ rest.0,
+  rest.1,
+  commands_at cs i x less is ∙ ap (λ (y : List Command). x ∷ y) rest.2,
+  (answer, m1, d1, w1, k1, one, line, rest.3),
+)
+
+-- one command is answered, and no more
+pub some_here : (p : Program) (cs : List Command) (i : ℕ) (x : Command) (m m1 : Mode)
+    (d d' : Device) (w w' : Option (List ℕ)) (k k' : ℕ) (answer : Answer)
+    → i < length cs → x ≡ get_or cs i x → Commanded p x m d answer m1 d' k k'
+    → Appends w w' (answer_text answer) → RunsSome p (drop i cs) m d w k d' w' k'
+some_here p cs i x m m1 d d' w w' k k' answer less is one line = (
+  x ∷ [],
+  drop (i + 1) cs,
+  commands_at cs i x less is,
+  (answer, m1, d', w', k', one, line, (refl, refl, refl)),
+)
+
+-- a command is answered, and the run ends there
+pub broken_here : (why : Unheld) (s : MirrorState) (p : Program) (cs : List Command) (i : ℕ)
+    (x : Command) (m m1 m0 : Mode) (d d' d0 : Device) (w w' w0 : Option (List ℕ)) (k k' k0 : ℕ)
+    (answer : Answer)
+    → ((e : Device) (v : Option (List ℕ)) (j : ℕ) → RunsPart p (drop i cs) m d w k e v j
+    → RunsPart p cs m0 d0 w0 k0 e v j)
+    → ((e : Device) (v : Option (List ℕ)) (j : ℕ) → RunsSome p (drop i cs) m d w k e v j
+    → RunsSome p cs m0 d0 w0 k0 e v j)
+    → i < length cs → x ≡ get_or cs i x → Commanded p x m d answer m1 d' k k'
+    → EndsAt why s w w' (answer_text answer) → BreaksOff why s p cs m0 d0 w0 k0 d' w' k'
+broken_here unheld.NoMemory s p cs i x m m1 m0 d d' d0 w w' w0 k k' k0 answer part some less is one
+    ends = part d' w' k' (part_here p cs i x m m1 d d' w w' k k' answer less is one ends)
+broken_here unheld.WriteFault s p cs i x m m1 m0 d d' d0 w w' w0 k k' k0 answer part some less is
+    one ends = part d' w' k' (part_here p cs i x m m1 d d' w w' k k' answer less is one ends)
+broken_here unheld.GivenUp s p cs i x m m1 m0 d d' d0 w w' w0 k k' k0 answer part some less is one
+    ends = (
+      some d' w' k' (some_here p cs i x m m1 d d' w w' k k' answer less is one ends.0),
+      ends.1,
+    )
+
+-- the events that open a pool, with its sizes by another name
+pub plays_sized : (y z : Sizes) (words : List ℤ) (d e : Device) → y ≡ z
+    → PlaysAll (blanked (pool_lines y) d) (opening_events (pool_lines y) words) e
+    → PlaysAll (blanked (pool_lines z) d) (opening_events (pool_lines z) words) e
+plays_sized y z words d e same played =
+    subst (λ (x : Sizes). PlaysAll (blanked (pool_lines x) d) (opening_events (pool_lines x) words)
+    e) same played
+
+-- the pool lay on a device that equals the opened one
+pub opens_held : (program : Program) (words : List ℤ) (d o e b : Device) (answer : Answer)
+    (m : Mode) (k k1 : ℕ) → e ≡ o
+    → PlaysAll (blanked (pool_lines program.image.parts.sizes) d)
+    (opening_events (pool_lines program.image.parts.sizes) words) o
+    → Recovers program e answer m b k k1 → Opens program words d answer m b k k1
+opens_held program words d o e b answer m k k1 same written recovers = record {
+  opened = o;
+  written = written;
+  recovers = subst (λ (x : Device). Recovers program x answer m b k k1) same recovers;
+}
+
+-- the pool is opened, and then its commands are answered
+pub held_ran : (program : Program) (commands : List Command) (words : List ℤ) (s : MirrorState)
+    (w w1 w' : Option (List ℕ)) (d b d' : Device) (k k1 k' : ℕ) (answer : Answer) (m : Mode)
+    (r : Result Unit Unheld) → Opens program words d answer m b k k1
+    → Appends w w1 (answer_text answer)
+    → OnOk r (RunsAndWrites program commands m b w1 k1 d' w' k')
+    → IfErr r (λ why. BreaksOff why s program commands m b w1 k1 d' w' k') → OnOk r (s ≡ Awake)
+    → HeldAs program commands words (status_of r) s w w' d d' k k'
+held_ran program commands words s w w1 w' d b d' k k1 k' answer m (Ok u) opens line all broken
+    kept = ((λ e. kept), inl (answer, m, b, w1, k1, opens, line, all))
+held_ran program commands words s w w1 w' d b d' k k1 k' answer m (Err unheld.NoMemory) opens line
+    all broken kept = ((λ e. cc), inl (inr (inr (answer, m, b, w1, k1, opens, line, broken))))
+held_ran program commands words s w w1 w' d b d' k k1 k' answer m (Err unheld.WriteFault) opens
+    line all broken kept = ((λ e. cc), inl (inr (answer, m, b, w1, k1, opens, line, broken)))
+held_ran program commands words s w w1 w' d b d' k k1 k' answer m (Err unheld.GivenUp) opens line
+    all broken kept =
+    ((λ e. cc), inr (refl, broken.1, (answer, m, b, w1, k1, opens, line, broken.0)))
+
+-- the same of a status and of commands by other names
+pub held_ran_as : (program : Program) (own commands : List Command) (words : List ℤ)
+    (s : MirrorState) (result : Status) (w w1 w' : Option (List ℕ)) (d b d' : Device)
+    (k k1 k' : ℕ) (answer : Answer) (m : Mode) (r : Result Unit Unheld) → result ≡ status_of r
+    → own ≡ commands → Opens program words d answer m b k k1 → Appends w w1 (answer_text answer)
+    → OnOk r (RunsAndWrites program own m b w1 k1 d' w' k')
+    → IfErr r (λ why. BreaksOff why s program own m b w1 k1 d' w' k') → OnOk r (s ≡ Awake)
+    → HeldAs program commands words result s w w' d d' k k'
+held_ran_as program own commands words s result w w1 w' d b d' k k1 k' answer m r is same opens line
+    all broken kept =
+    subst (λ (t : Status). HeldAs program commands words t s w w' d d' k k') (sym is)
+    (subst (λ (cs : List Command). HeldAs program cs words (status_of r) s w w' d d' k k') same
+    (held_ran program own words s w w1 w' d b d' k k1 k' answer m r opens line all broken kept))
+
+-- the run ends at the answer of the opening
+pub held_broken : (program : Program) (commands : List Command) (words : List ℤ) (s : MirrorState)
+    (w w' : Option (List ℕ)) (d d' : Device) (k k' : ℕ) (answer : Answer) (m : Mode) (why : Unheld)
+    → Opens program words d answer m d' k k' → EndsAt why s w w' (answer_text answer)
+    → HeldAs program commands words (status_of (Err why)) s w w' d d' k k'
+held_broken program commands words s w w' d d' k k' answer m unheld.NoMemory opens ends =
+    ((λ e. cc), inl (inr (inl (answer, m, opens, ends))))
+held_broken program commands words s w w' d d' k k' answer m unheld.WriteFault opens ends =
+    ((λ e. cc), inl (inl (answer, m, opens, ends)))
+held_broken program commands words s w w' d d' k k' answer m unheld.GivenUp opens ends = (
+  (λ e. cc),
+  inr (
+    refl,
+    ends.1,
+    (answer, m, d', w', k', opens, ends.0, ([], commands, refl, (refl, refl, refl))),
+  ),
+)
+
+-- the file of the words that were opened mirrors the device
+pub opened_mirror : (c a : Option FileLines) (m n : Memory) (lines : ℕ) (words : List ℤ)
+    (d e : Device) → a ≡ c → n ≡ m → e.cache ≡ m.cache → e.lines ≡ m.lines → e.lines ≡ lines
+    → PlaysAll (blanked lines d) (opening_events lines words) e → HoldsWords c lines words
+    → MarksFit m → IsMirror a n
+opened_mirror c a m n lines words d e shown same cache count is played held marks =
+    subst (λ (x : Option FileLines). IsMirror x n) (sym shown)
+    (subst (λ (x : Memory). IsMirror c x) (sym same)
+    (holds c m words
+    (subst (λ (l : ℕ). HoldsWords c l words) (sym is ∙ count) held)
+    (λ p less. ap (λ (x : Cache). view x p)
+    (sym cache ∙ all_cache (opening_events lines words) (blanked lines d) e played)
+    ∙ written_word words lines p)
+    marks))
+
+from_at : (h : Words) (n w p : ℕ) → p < n
+    → slice_index_or (words_from h w n) p (pos 0) ≡ h (w + p)
+from_at h zero w p less = absurd (omega arith)
+from_at h (suc n) w zero less = ap h (omega arith)
+from_at h (suc n) w (suc p) less = from_at h n (suc w) p (omega arith) ∙ ap h (omega arith)
+
+-- the file that was made of a device's words mirrors the device
+pub made_mirror : (c a : Option FileLines) (m n : Memory) → a ≡ c → n ≡ m
+    → HoldsWords c m.lines (words_from (view m.cache) 0 (8 * m.lines)) → MarksFit m → IsMirror a n
+made_mirror c a m n shown same held marks =
+    subst (λ (x : Option FileLines). IsMirror x n) (sym shown)
+    (subst (λ (x : Memory). IsMirror c x) (sym same)
+    (holds c m (words_from (view m.cache) 0 (8 * m.lines)) held
+    (λ p less. sym (from_at (view m.cache) (8 * m.lines) 0 p less
+    ∙ ap (view m.cache) (omega arith))) marks))
+
+-- devices over files with the same lines and switch
+pub same_device : {L F : Type 0} (memory : L → Memory) (p q : FileParts L F) → q.lines ≡ p.lines
+    → q.switch ≡ p.switch → file_device memory q ≡ file_device memory p
+same_device {L} memory p q lines switch =
+    ap (λ (l : L). untold (memory l) q.switch) lines
+    ∙ ap (λ (s : Switch). untold (memory p.lines) s) switch

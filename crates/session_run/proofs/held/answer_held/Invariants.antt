@@ -1,0 +1,32 @@
+use Rattle.std.proofs.Common.{◌≡◌, ◌≤◌, ℕ, List, Option, drop}
+use Rattle.pmem.specs.Device.{Device}
+use Rattle.file_pmem.specs.Mirror.{file_device}
+use Rattle.file_pmem.specs.declared.link.MirrorState.TheVariants.{Awake}
+use Rattle.pool_layout.specs.Sizes.{pool_lines}
+use Rattle.session_run.specs.Commands.{RunsAndWrites, RunsPart}
+use Rattle.session_run.specs.Held.{RunsSome}
+use Rattle.session_run.proofs.held.answer_held.Given as goal
+
+-- if the commands that are left lead on from here, then all of them lead on from the start
+abbrev pub invariant-loop-given : goal.invariant-loop-given
+invariant-loop-given g l =
+    let written = g.K.Sink.written in record {
+      lines : (file_device g.N.Lines.memory l.dev).lines ≡ pool_lines l.program.image.parts.sizes;
+      awake : l.dev.link.state ≡ Awake;
+      count : g.K.Sink.faults l.initial.out ≤ g.K.Sink.faults l.out;
+      all : (d : Device) (w : Option (List ℕ)) (k : ℕ)
+          → RunsAndWrites l.program (drop l.given-index l.commands) l.session (file_device g.N.Lines.memory l.dev)
+          (written l.out) l.steps d w k
+          → RunsAndWrites l.program l.commands l.initial.session (file_device g.N.Lines.memory l.initial.dev)
+          (written l.initial.out) l.initial.steps d w k;
+      part : (d : Device) (w : Option (List ℕ)) (k : ℕ)
+          → RunsPart l.program (drop l.given-index l.commands) l.session (file_device g.N.Lines.memory l.dev)
+          (written l.out) l.steps d w k
+          → RunsPart l.program l.commands l.initial.session (file_device g.N.Lines.memory l.initial.dev)
+          (written l.initial.out) l.initial.steps d w k;
+      some : (d : Device) (w : Option (List ℕ)) (k : ℕ)
+          → RunsSome l.program (drop l.given-index l.commands) l.session (file_device g.N.Lines.memory l.dev)
+          (written l.out) l.steps d w k
+          → RunsSome l.program l.commands l.initial.session (file_device g.N.Lines.memory l.initial.dev)
+          (written l.initial.out) l.initial.steps d w k;
+    }
