@@ -1,0 +1,4 @@
+pub mod Left
+pub mod LineSize
+pub mod Serves
+pub mod inside

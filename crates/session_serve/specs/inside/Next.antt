@@ -1,0 +1,44 @@
+-- One line: it is taken from the input and answered.
+use Rattle.std.specs.Prelude.{ℕ, List, [], ◌∷◌, ◌++◌, Option, None, Some, Result, Ok, Err, ◌≡◌}
+use Rattle.std.specs.Io.KnownBytes.{Appends}
+use Rattle.nvm_base.specs.Parts.{AppendsPart}
+use Rattle.pmem.specs.Device.{Device}
+use Rattle.cnvm_script.specs.declared.command.Command.{Command}
+use Rattle.cnvm_script.specs.Commands.{line_meaning}
+use Rattle.cnvm_script.specs.Lines.{lines}
+use Rattle.cnvm_session.specs.declared.mode.Mode.{Mode}
+use Rattle.cnvm_session.specs.declared.program.Program.{Program}
+use Rattle.session_serve.specs.declared.answering.Unanswered.{Unanswered}
+use Rattle.session_serve.specs.declared.answering.Unanswered.TheVariants.{Unread, Untold}
+use Rattle.session_serve.specs.declared.answering.Unanswered.TheVariants.{Unwritten}
+use Rattle.session_serve.specs.declared.serving.Served.{Served}
+use Rattle.session_serve.specs.Serves.{DoesMeaning, ServedAs}
+
+-- the line's answer is written, whole or in part; or it wasn't read, and nothing has changed
+abbrev pub AnsweredAs : {A : Type 0} → Result A Unanswered → Option (Option Command) → Program
+    → Mode → Device → Option (List ℕ) → ℕ → Mode → Device → Option (List ℕ) → ℕ → Type 0
+AnsweredAs (Ok _) meaning program m d w k m' d' w' k' =
+    (text : List ℕ) × DoesMeaning meaning program m d k text m' d' k' × Appends w w' text
+AnsweredAs (Err Unread) meaning program m d w k m' d' w' k' =
+    (m' ≡ m) × (d' ≡ d) × (w' ≡ w) × (k' ≡ k)
+AnsweredAs (Err Untold) meaning program m d w k m' d' w' k' =
+    (text : List ℕ) × DoesMeaning meaning program m d k text m' d' k' × (w' ≡ w)
+AnsweredAs (Err Unwritten) meaning program m d w k m' d' w' k' =
+    (text : List ℕ) × DoesMeaning meaning program m d k text m' d' k' × AppendsPart w w' text
+
+-- These lines are taken from the front of an input. Of one that doesn't tell its bytes nothing is
+-- said.
+abbrev pub TakesLines : Option (List ℕ) → List (List ℕ) → Option (List ℕ) → Type 0
+TakesLines None given new = Unit {0}
+TakesLines (Some text) given None = ⊥
+TakesLines (Some text) given (Some more) = lines text ≡ given ++ lines more
+
+-- the next line is taken, and answered before the next read; or serving ends
+abbrev pub NextAs : Option Served → (left left' : Option (List ℕ)) → Program → Mode → Device
+    → Option (List ℕ) → ℕ → Mode → Device → Option (List ℕ) → ℕ → Type 0
+NextAs None left left' program m d w k m' d' w' k' =
+    (line : List ℕ) × TakesLines left (line ∷ []) left'
+    × (text : List ℕ) × DoesMeaning (line_meaning line) program m d k text m' d' k'
+    × Appends w w' text
+NextAs (Some end) left left' program m d w k m' d' w' k' =
+    ServedAs end left program m d w k m' d' w' k'
