@@ -42,6 +42,7 @@ use Rattle.cnvm_cli.specs.WorkersMeant.{make_fault}
 use Rattle.cnvm_cli.specs.World.{Sources, Outside}
 use Rattle.cnvm_cli.specs.Meant.{Start, Fresh, FromImage, start_if}
 use Rattle.cnvm_cli.specs.inside.Ends.{PoolEnds, JobEnds, RunEnds, StormEnds, PlanEnds}
+use Rattle.cnvm_cli.specs.Emitted.{EmitEnds}
 use Rattle.cnvm_cli.specs.Listed.{ListEnds, WrittenAs, listing_sizes}
 use Rattle.session_run.specs.Commands.{OpensAll, OpensPart, OpenedAs}
 use Rattle.session_run.specs.Commands.{CreatedAll, CreatedPart, RanAs}
@@ -60,8 +61,6 @@ quiet_kept refused.ReadFault result w w' quiet told refuses =
     subst (λ (s : Status). IsRefusalStatus s) told.0 refuses
 quiet_kept refused.NoMemory result w w' quiet told refuses =
     subst (λ (s : Status). IsRefusalStatus s) told.0 refuses
-quiet_kept refused.Device result w w' quiet told refuses =
-    subst (λ (s : Status). IsRefusalStatus s) told.0 refuses
 quiet_kept (refused.Image image.NoMemory) result w w' quiet told refuses =
     subst (λ (s : Status). IsRefusalStatus s) told.0 refuses
 quiet_kept (refused.Image (image.Short a b)) result w w' quiet told refuses =
@@ -77,6 +76,7 @@ quiet_kept (refused.Image (image.Digest a b)) result w w' quiet told refuses =
 quiet_kept (refused.Image (image.Content a b)) result w w' quiet told refuses =
     absurd (not_true quiet)
 quiet_kept refused.Usage result w w' quiet told refuses = absurd (not_true quiet)
+quiet_kept refused.Busy result w w' quiet told refuses = absurd (not_true quiet)
 quiet_kept refused.LongProgram result w w' quiet told refuses = absurd (not_true quiet)
 quiet_kept (refused.Program line complaint) result w w' quiet told refuses = absurd (not_true quiet)
 quiet_kept refused.LongScript result w w' quiet told refuses = absurd (not_true quiet)
@@ -104,7 +104,7 @@ program_quiet asked (Some text) has refused.LongScript told = absurd told
 program_quiet asked (Some text) has (refused.Script number) told = absurd told
 program_quiet asked (Some text) has refused.Usage told = absurd told
 program_quiet asked (Some text) has (refused.Image fault) told = absurd told
-program_quiet asked (Some text) has refused.Device told = absurd told
+program_quiet asked (Some text) has refused.Busy told = absurd told
 
 module _ {C : Type 0} (means : Grammar C) where
   not_long : (text : List ℕ) (commands : List C) → SpellsIn means commands text
@@ -126,7 +126,7 @@ module _ {C : Type 0} (means : Grammar C) where
   script_quiet text commands is refused.LongProgram told = absurd told
   script_quiet text commands is (refused.Program line complaint) told = absurd told
   script_quiet text commands is (refused.Image fault) told = absurd told
-  script_quiet text commands is refused.Device told = absurd told
+  script_quiet text commands is refused.Busy told = absurd told
 
   texts_quiet : (asked : Asked) (p s : Option (List ℕ)) → HasProgram asked p
       → HasScript means s → (why : Refused) → RefuseIn means asked p s why
@@ -169,7 +169,7 @@ image_quiet program bytes is refused.LongProgram told = absurd told
 image_quiet program bytes is (refused.Program line complaint) told = absurd told
 image_quiet program bytes is refused.LongScript told = absurd told
 image_quiet program bytes is (refused.Script number) told = absurd told
-image_quiet program bytes is refused.Device told = absurd told
+image_quiet program bytes is refused.Busy told = absurd told
 
 tells_kept : (line : List ℕ) (result : Status) (w w' : Option (List ℕ))
     → TellsAs status.Done line result w w' → IsRefusalStatus result → ⊥
@@ -190,6 +190,7 @@ saved_kept status.Usage result o o' d d' kept saved refuses = kept tt
 saved_kept status.Program result o o' d d' kept saved refuses = kept tt
 saved_kept status.Script result o o' d d' kept saved refuses = kept tt
 saved_kept status.Image result o o' d d' kept saved refuses = kept tt
+saved_kept status.PoolBusy result o o' d d' kept saved refuses = kept tt
 saved_kept status.ReadFault result o o' d d' kept saved refuses =
     subst (λ (s : Status). IsRefusalStatus s) saved.0 refuses
 saved_kept status.WriteFault result o o' d d' kept saved refuses =
@@ -293,6 +294,14 @@ why_kept p result w w' has ends refuses =
     told.2 refuses)
     (λ ran. written_kept _ result w w' ran.4 refuses) ends
 
+emit_kept : (asked : Asked) (prefix : List ℕ) (header : Bool) (p : Option (List ℕ))
+    (result : Status) (w w' : Option (List ℕ)) → HasProgram asked p
+    → EmitEnds asked prefix header p result w w' → IsRefusalStatus result → ⊥
+emit_kept asked prefix header p result w w' has ends refuses =
+    ⊎_elim (λ told. quiet_kept told.0 result w w' (program_quiet asked p has told.0 told.1)
+    told.2 refuses)
+    (λ ran. written_kept _ result w w' ran.2 refuses) ends
+
 storm_kept : (asked : Asked) (start count : ℕ) (p : Option (List ℕ)) (result : Status)
     (w w' : Option (List ℕ)) (d d' : Device) (k k' : ℕ)
     → HasProgram asked p → StormEnds asked start count p result w w' d d' k k'
@@ -327,6 +336,8 @@ plan_kept (plan.Run p s slots records ticks from save) told result before after 
     run_kept (asked_by slots records ticks) told.program told.script
     told.image (is_some from) (is_some save)
     result before after has ends refuses
+plan_kept (plan.RunPool p s slots records ticks pool) told result before after has ends refuses =
+    has
 plan_kept (plan.List p) told result before after has ends refuses =
     list_kept told.program result before.out after.out has ends.0 refuses
 plan_kept (plan.Storm p start count slots records ticks) told result before after has
@@ -341,6 +352,10 @@ plan_kept (plan.Workers p s workers slots records ticks) told result before afte
     workers_kept (asked_by slots records ticks) workers told.program told.script
     result before.out after.out before.dev
     after.dev before.steps after.steps has.0 has.1 ends.0 refuses
+plan_kept (plan.Emit p prefix header slots records ticks) told result before after has
+    ends refuses =
+    emit_kept (asked_by slots records ticks) prefix header told.program result before.out after.out
+    has ends.0 refuses
 
 -- if everything is accepted, the status is no refusal
 pub plan_kept_as : (words : Option Plan) (asked : Plan) (told : Sources) (result : Status)

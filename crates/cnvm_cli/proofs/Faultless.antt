@@ -1,5 +1,5 @@
 -- A device that shows that no fault is armed never fails, and no call on it ends with
--- `DeviceFault`.
+-- `DeviceFault`, but for one that runs on a pool's file.
 use Rattle.std.proofs.Common.{◌≡◌, ℕ, ◌*◌, List, [], ◌∷◌, Bool, true, false, Option, Some, None}
 use Rattle.std.proofs.Common.{is_some, ℤ, inl, inr, refl, sym, ap, subst}
 use Rattle.cache_model.specs.Event.{CacheEvent}
@@ -23,10 +23,12 @@ use Rattle.cnvm_cli.specs.declared.refused.Refused.{Refused}
 use Rattle.cnvm_cli.specs.declared.refused.Refused.TheVariants as refused
 use Rattle.session_run.specs.declared.status.Status.{Status}
 use Rattle.session_run.specs.declared.status.Status.TheVariants as status
+use Rattle.cnvm_cli.specs.Emitted.{EmitEnds}
 use Rattle.cnvm_cli.specs.Listed.{ListEnds}
 use Rattle.cnvm_cli.specs.Meant.{Start, Fresh, FromImage, start_if, StartMeant, JobMeant, RunMeant}
 use Rattle.cnvm_cli.specs.Meant.{PlanMeant, CallMeant}
 use Rattle.cnvm_cli.specs.Opened.{ImageRefuses}
+use Rattle.cnvm_cli.specs.PoolMeant.{HasPool}
 use Rattle.cnvm_cli.specs.Run.{RefusedAs}
 use Rattle.session_run.specs.Told.{TellsAs}
 use Rattle.session_run.specs.Saved.{SavedAs}
@@ -60,7 +62,7 @@ never_made sizes digest count d b none part =
     never_fails (creations sizes digest 0 count) (blanked (pool_lines sizes * count) d) b
     (ap (armed_as None) none) part
 
--- no refusal but that of a device has this status
+-- no refusal has this status
 
 tells_never : (due : Status) (line : List ℕ) (w w' : Option (List ℕ))
     → (due ≡ status.DeviceFault → ⊥) → TellsAs due line status.DeviceFault w w' → ⊥
@@ -69,45 +71,46 @@ tells_never due line w w' other (inr (inl none)) = let e = none.0 in absurd cc
 tells_never due line w w' other (inr (inr part)) = let e = part.0 in absurd cc
 
 device_refused : (why : Refused) (w w' : Option (List ℕ))
-    → RefusedAs why status.DeviceFault w w' → why ≡ refused.Device
+    → RefusedAs why status.DeviceFault w w' → ⊥
 device_refused refused.Usage w w' told =
-    absurd (tells_never status.Usage _ w w' (λ e. cc) told)
+    tells_never status.Usage _ w w' (λ e. cc) told
 device_refused refused.LongProgram w w' told =
-    absurd (tells_never status.Program _ w w' (λ e. cc) told)
+    tells_never status.Program _ w w' (λ e. cc) told
 device_refused (refused.Program line complaint) w w' told =
-    absurd (tells_never status.Program _ w w' (λ e. cc) told)
+    tells_never status.Program _ w w' (λ e. cc) told
 device_refused refused.LongScript w w' told =
-    absurd (tells_never status.Script _ w w' (λ e. cc) told)
+    tells_never status.Script _ w w' (λ e. cc) told
 device_refused (refused.Script number) w w' told =
-    absurd (tells_never status.Script _ w w' (λ e. cc) told)
+    tells_never status.Script _ w w' (λ e. cc) told
 device_refused (refused.Image (image.Short a b)) w w' told =
-    absurd (tells_never status.Image _ w w' (λ e. cc) told)
+    tells_never status.Image _ w w' (λ e. cc) told
 device_refused (refused.Image (image.Magic a b)) w w' told =
-    absurd (tells_never status.Image _ w w' (λ e. cc) told)
+    tells_never status.Image _ w w' (λ e. cc) told
 device_refused (refused.Image (image.Version a b)) w w' told =
-    absurd (tells_never status.Image _ w w' (λ e. cc) told)
+    tells_never status.Image _ w w' (λ e. cc) told
 device_refused (refused.Image (image.Sizes a b)) w w' told =
-    absurd (tells_never status.Image _ w w' (λ e. cc) told)
+    tells_never status.Image _ w w' (λ e. cc) told
 device_refused (refused.Image (image.Digest a b)) w w' told =
-    absurd (tells_never status.Image _ w w' (λ e. cc) told)
+    tells_never status.Image _ w w' (λ e. cc) told
 device_refused (refused.Image (image.Content a b)) w w' told =
-    absurd (tells_never status.Image _ w w' (λ e. cc) told)
+    tells_never status.Image _ w w' (λ e. cc) told
 device_refused (refused.Image image.NoMemory) w w' told = let e = told.0 in absurd cc
-device_refused refused.Device w w' told = refl
+device_refused refused.Busy w w' told =
+    tells_never status.PoolBusy _ w w' (λ e. cc) told
 device_refused refused.ReadFault w w' told = let e = told.0 in absurd cc
 device_refused refused.NoMemory w w' told = let e = told.0 in absurd cc
 
 program_never : (p : Option (List ℕ)) (why : Refused) (w w' : Option (List ℕ))
     → ProgramRefuses p why → RefusedAs why status.DeviceFault w w' → ⊥
 program_never p why w w' refuses told =
-    subst (ProgramRefuses p) (device_refused why w w' told) refuses
+    device_refused why w w' told
 
 texts_never : {C : Type 0} (means : Grammar C) (asked : Asked) (p s : Option (List ℕ))
     (why : Refused) (w w' : Option (List ℕ))
     → RefuseIn means asked p s why → RefusedAs why status.DeviceFault w w' → ⊥
 texts_never means asked p s why w w' (inl refuses) told = program_never p why w w' refuses told
 texts_never means asked p s why w w' (inr refuses) told =
-    subst (ScriptRefuses means s) (device_refused why w w' told) refuses.1
+    device_refused why w w' told
 
 -- no pool fails to be made, and none is saved so
 
@@ -117,7 +120,7 @@ start_never : (from : Start) (program : Program) (commands : List Command)
 start_never Fresh program commands w w' d d' k k' none meant =
     never_unmade _ _ d d' none meant.2
 start_never (FromImage bytes) program commands w w' d d' k k' none (inl refuses) =
-    subst (ImageRefuses program bytes) (device_refused refuses.0 w w' refuses.2) refuses.1
+    device_refused refuses.0 w w' refuses.2
 start_never (FromImage bytes) program commands w w' d d' k k' none (inr meant) =
     let unopened = meant.2 in never_unmade _ _ d d' none unopened.2
 
@@ -133,6 +136,7 @@ saved_ran status.ReadFault o o' d d' saved = sym saved.0
 saved_ran status.WriteFault o o' d d' saved = sym saved.0
 saved_ran status.DeviceFault o o' d d' saved = sym saved.0
 saved_ran status.Image o o' d d' saved = sym saved.0
+saved_ran status.PoolBusy o o' d d' saved = sym saved.0
 
 job_never : (saves : Bool) (from : Start) (program : Program) (commands : List Command)
     (before after : Outside) → IsFaultless before.dev
@@ -163,6 +167,12 @@ why_never : (p w w' : Option (List ℕ)) → WhyEnds p status.DeviceFault w w' �
 why_never p w w' (inl refuses) = program_never p refuses.0 w w' refuses.1 refuses.2
 why_never p w w' (inr written) = written.4
 
+emit_never : (asked : Asked) (prefix : List ℕ) (header : Bool) (p w w' : Option (List ℕ))
+    → EmitEnds asked prefix header p status.DeviceFault w w' → ⊥
+emit_never asked prefix header p w w' (inl refuses) =
+    program_never p refuses.0 w w' refuses.1 refuses.2
+emit_never asked prefix header p w w' (inr written) = written.2
+
 storm_never : (asked : Asked) (first count : ℕ) (p w w' : Option (List ℕ)) (d d' : Device)
     (k k' : ℕ) → IsFaultless d
     → StormMeant asked first count p status.DeviceFault w w' d d' k k' → ⊥
@@ -180,26 +190,28 @@ workers_never asked count p s w w' d d' k k' none (inr meant) =
     let unbegun = meant.4 in never_made _ _ _ d d' none unbegun.2
 
 plan_never : (asked : Plan) (told : Sources) (before after : Outside) → IsFaultless before.dev
-    → PlanMeant asked told status.DeviceFault before after → ⊥
+    → PlanMeant asked told status.DeviceFault before after → HasPool (Some asked)
 plan_never (plan.Run p s slots records ticks from save) told before after none meant =
-    run_never (asked_by slots records ticks) told (is_some from) (is_some save) before after none
-    meant
+    absurd (run_never (asked_by slots records ticks) told (is_some from) (is_some save) before after
+    none meant)
+plan_never (plan.RunPool p s slots records ticks pool) told before after none meant = tt
 plan_never (plan.List p) told before after none meant =
-    list_never told.program before.out after.out meant.0
+    absurd (list_never told.program before.out after.out meant.0)
 plan_never (plan.Storm p first count slots records ticks) told before after none meant =
-    storm_never (asked_by slots records ticks) first count told.program before.out after.out
-    before.dev after.dev before.steps after.steps none meant.0
+    absurd (storm_never (asked_by slots records ticks) first count told.program before.out after.out
+    before.dev after.dev before.steps after.steps none meant.0)
 plan_never (plan.Why p) told before after none meant =
-    why_never told.program before.out after.out meant.0
+    absurd (why_never told.program before.out after.out meant.0)
 plan_never (plan.Workers p s workers slots records ticks) told before after none meant =
-    workers_never (asked_by slots records ticks) workers told.program told.script before.out
-    after.out before.dev after.dev before.steps after.steps none meant.0
+    absurd (workers_never (asked_by slots records ticks) workers told.program told.script before.out
+    after.out before.dev after.dev before.steps after.steps none meant.0)
+plan_never (plan.Emit p prefix header slots records ticks) told before after none meant =
+    absurd (emit_never (asked_by slots records ticks) prefix header told.program before.out after.out
+    meant.0)
 
 pub call_never : (words : Option Plan) (told : Sources) (before after : Outside)
-    → IsFaultless before.dev → CallMeant words told status.DeviceFault before after → ⊥
+    → IsFaultless before.dev → CallMeant words told status.DeviceFault before after → HasPool words
 call_never None told before after none meant =
-    let is : refused.Usage ≡ refused.Device =
-    device_refused refused.Usage before.out after.out meant.0 in
-    absurd cc
+    absurd (device_refused refused.Usage before.out after.out meant.0)
 call_never (Some asked) told before after none meant =
     plan_never asked told before after none meant

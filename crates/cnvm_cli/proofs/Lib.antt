@@ -2,6 +2,7 @@ pub mod Completing
 pub mod Digits
 pub mod Faultless
 pub mod Meaning
+pub mod PoolMeaning
 pub mod Sources
 pub mod Statuses
 pub mod StormMeaning

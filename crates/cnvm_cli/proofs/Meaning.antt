@@ -74,7 +74,7 @@ module _ (program : Program) (super : Words)
     history = history_after program x.state (found_by c x.device) c a x.history;
   }
 
-  run_all : (commands : List Command) → AllByRecursion IsWordCommand commands →
+  pub run_all : (commands : List Command) → AllByRecursion IsWordCommand commands →
       (x : Moment) (d' : Device) (w w' : Option (List ℕ)) (k' : ℕ) →
       Holds program super x.mode x.device x.state
       → RunsAndWrites program commands x.mode x.device w x.steps d' w' k' →
@@ -102,7 +102,7 @@ module _ (program : Program) (super : Words)
         written = appends_more w r.3 w' (answer_text r.0) (text_of rest.answers) r.6 rest.written;
       }
 
-  run_part : (commands : List Command) → AllByRecursion IsWordCommand commands →
+  pub run_part : (commands : List Command) → AllByRecursion IsWordCommand commands →
       (x : Moment) (d' : Device) (w w' : Option (List ℕ)) (k' : ℕ) →
       Holds program super x.mode x.device x.state
       → RunsPart program commands x.mode x.device w x.steps d' w' k' →
@@ -186,7 +186,7 @@ module _ (program : Program) (agrees : Agrees program)
       (created_all w w' d d' k k') (created_part w w' d d' k k') result r
 
   -- the moment after the pool of an image was opened
-  abbrev opened_to : List ℤ → Answer → Mode → Device → ℕ → SourceState → Moment
+  abbrev pub opened_to : List ℤ → Answer → Mode → Device → ℕ → SourceState → Moment
   opened_to list a m b k1 t = record {
     mode = m;
     device = b;
@@ -234,7 +234,7 @@ module _ (program : Program) (agrees : Agrees program)
             words x d' r.3 w' k' first.1.holds r.7,
       )
 
-  opened_meant : (words : List ℤ) → AreWords words → IsOpened (wanted_of program) words →
+  pub opened_meant : (words : List ℤ) → AreWords words → IsOpened (wanted_of program) words →
       (result : Status) (w w' : Option (List ℕ)) (d d' : Device) (k k' : ℕ) →
       OpenedAs program commands words result w w' d d' k k' →
       OpenedMeantAs program commands words result w w' d d' k k'
@@ -298,6 +298,7 @@ plan_meant : (asked : Plan) (told : Sources) (result : Status) (before after : O
 plan_meant (plan.Run p s slots records ticks from save) told result before after ends =
     run_meant (asked_by slots records ticks) told (is_some from) (is_some save) result before
     after ends
+plan_meant (plan.RunPool p s slots records ticks pool) told result before after ends = ends
 plan_meant (plan.List p) told result before after ends = ends
 plan_meant (plan.Storm p start count slots records ticks) told result before after ends = (
   storm_meant (asked_by slots records ticks) start count told.program result before.out after.out
@@ -310,6 +311,7 @@ plan_meant (plan.Workers p s workers slots records ticks) told result before aft
       after.out before.dev after.dev before.steps after.steps ends.0,
   ends.1,
 )
+plan_meant (plan.Emit p prefix header slots records ticks) told result before after ends = ends
 
 -- words that make a plan
 pub plan_meant_as : (words : Option Plan) (asked : Plan) (told : Sources) (result : Status)
@@ -326,6 +328,8 @@ pub memory_meant : (words : Option Plan) (told : Sources) (before after : Outsid
 memory_meant None told before after keeps same = (inr (inl (refl, keeps)), same)
 memory_meant (Some (plan.Run p s slots records ticks from save)) told before after keeps same =
     inl (refused.NoMemory, inl tt, (refl, keeps), same)
+memory_meant (Some (plan.RunPool p s slots records ticks pool)) told before after keeps same =
+    (same.0, same.1)
 memory_meant (Some (plan.List p)) told before after keeps same =
     (inl (refused.NoMemory, tt, (refl, keeps)), same)
 memory_meant (Some (plan.Storm p start count slots records ticks)) told before after keeps same =
@@ -334,3 +338,5 @@ memory_meant (Some (plan.Why p)) told before after keeps same =
     (inl (refused.NoMemory, tt, (refl, keeps)), same)
 memory_meant (Some (plan.Workers p s workers slots records ticks)) told before after keeps same =
     (inl (refused.NoMemory, inl tt, (refl, keeps), same.1, same.2), same.0)
+memory_meant (Some (plan.Emit p prefix header slots records ticks)) told before after keeps same =
+    (inl (refused.NoMemory, tt, (refl, keeps)), same)

@@ -81,7 +81,7 @@ program_read asked w (Err refused.Usage) bytes same is = absurd is
 program_read asked w (Err refused.LongScript) bytes same is = absurd is
 program_read asked w (Err (refused.Script number)) bytes same is = absurd is
 program_read asked w (Err (refused.Image fault)) bytes same is = absurd is
-program_read asked w (Err refused.Device) bytes same is = absurd is
+program_read asked w (Err refused.Busy) bytes same is = absurd is
 
 pub script_read : {C : Type 0} (means : Grammar C) (w : Option (List ℕ))
     (r : Result (List C) Refused) (bytes : List ℕ)
@@ -99,7 +99,7 @@ script_read {C} means w (Err refused.Usage) bytes same is = absurd is
 script_read {C} means w (Err refused.LongProgram) bytes same is = absurd is
 script_read {C} means w (Err (refused.Program line complaint)) bytes same is = absurd is
 script_read {C} means w (Err (refused.Image fault)) bytes same is = absurd is
-script_read {C} means w (Err refused.Device) bytes same is = absurd is
+script_read {C} means w (Err refused.Busy) bytes same is = absurd is
 
 pub image_read : (program : Program) (w : Option (List ℕ)) (r : Result (List ℤ) Refused)
     (bytes : List ℕ) → IfSome w (λ all. bytes ≡ read_part program all)
@@ -121,4 +121,4 @@ image_read program w (Err refused.LongProgram) bytes first within is = absurd is
 image_read program w (Err (refused.Program line complaint)) bytes first within is = absurd is
 image_read program w (Err refused.LongScript) bytes first within is = absurd is
 image_read program w (Err (refused.Script number)) bytes first within is = absurd is
-image_read program w (Err refused.Device) bytes first within is = absurd is
+image_read program w (Err refused.Busy) bytes first within is = absurd is

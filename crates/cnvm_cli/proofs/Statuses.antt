@@ -21,6 +21,7 @@ status_map N starved all part status.Usage h = absurd h
 status_map N starved all part status.Program h = absurd h
 status_map N starved all part status.Script h = absurd h
 status_map N starved all part status.Image h = absurd h
+status_map N starved all part status.PoolBusy h = absurd h
 
 -- none of them is a refusal
 pub status_kept : (N : StartFault → Type 0) (Z A P : Type 0) (s : Status)
@@ -29,6 +30,7 @@ status_kept N Z A P status.Usage h refuses = h
 status_kept N Z A P status.Program h refuses = h
 status_kept N Z A P status.Script h refuses = h
 status_kept N Z A P status.Image h refuses = h
+status_kept N Z A P status.PoolBusy h refuses = h
 status_kept N Z A P status.Done h refuses = refuses
 status_kept N Z A P status.NoMemory h refuses = refuses
 status_kept N Z A P status.ReadFault h refuses = refuses

@@ -40,10 +40,12 @@ IsRunServed asked told opens =
     HasProgram asked told.program × HasScript script_meaning told.script
     × (opens ≡ true → HasImage asked told.program told.image)
 
--- everything that the plan reads is there and is accepted
+-- Everything that the plan reads is there and is accepted. Of a pool's file its own clause says when
+-- it is refused.
 abbrev pub IsPlanServed : Plan → Sources → Type 0
 IsPlanServed (plan.Run p s slots records ticks from save) told =
     IsRunServed (asked_by slots records ticks) told (is_some from)
+IsPlanServed (plan.RunPool p s slots records ticks pool) told = ⊥
 IsPlanServed (plan.List p) told = HasProgram listing_sizes told.program
 IsPlanServed (plan.Storm p start count slots records ticks) told =
     HasProgram (asked_by slots records ticks) told.program
@@ -51,16 +53,19 @@ IsPlanServed (plan.Why p) told = HasProgram listing_sizes told.program
 IsPlanServed (plan.Workers p s workers slots records ticks) told =
     HasProgram (asked_by slots records ticks) told.program
     × HasScript workers_script_meaning told.script
+IsPlanServed (plan.Emit p prefix header slots records ticks) told =
+    HasProgram (asked_by slots records ticks) told.program
 
 -- the words ask for something, and all that they ask for is served
 abbrev pub IsServed : Option Plan → Sources → Type 0
 IsServed None told = ⊥
 IsServed (Some asked) told = IsPlanServed asked told
 
--- the words, the program, the script or the image were refused
+-- the words, the program, the script, the image or the pool's file were refused
 abbrev pub IsRefusalStatus : Status → Type 0
 IsRefusalStatus status.Usage = ⊤
 IsRefusalStatus status.Program = ⊤
 IsRefusalStatus status.Script = ⊤
 IsRefusalStatus status.Image = ⊤
+IsRefusalStatus status.PoolBusy = ⊤
 IsRefusalStatus _ = ⊥

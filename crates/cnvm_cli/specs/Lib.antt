@@ -1,7 +1,9 @@
 pub mod Complete
+pub mod Emitted
 pub mod Listed
 pub mod Meant
 pub mod Opened
+pub mod PoolMeant
 pub mod Read
 pub mod RefusalText
 pub mod Run

@@ -26,6 +26,7 @@ use Rattle.cnvm_cli.specs.declared.refused.Refused.{Refused}
 use Rattle.cnvm_cli.specs.declared.refused.Refused.TheVariants as refused
 use Rattle.session_run.specs.declared.status.Status.{Status}
 use Rattle.session_run.specs.AsStatus.{AsStatus}
+use Rattle.cnvm_cli.specs.Emitted.{EmitEnds}
 use Rattle.cnvm_cli.specs.Listed.{ListEnds}
 use Rattle.cnvm_cli.specs.Opened.{ImageRefuses, ImageGives}
 use Rattle.cnvm_cli.specs.Run.{RefusedAs}
@@ -172,6 +173,8 @@ RunMeant asked told opens saves result before after =
 abbrev pub PlanMeant : Plan → Sources → Status → (before after : Outside) → Type 0
 PlanMeant (plan.Run p s slots records ticks from save) told result before after =
     RunMeant (asked_by slots records ticks) told (is_some from) (is_some save) result before after
+PlanMeant (plan.RunPool p s slots records ticks pool) told result before after =
+    Keeps before.image after.image × (after.dev ≡ before.dev)
 PlanMeant (plan.List p) told result before after =
     ListEnds told.program result before.out after.out × IsUntouched before after
 PlanMeant (plan.Storm p start count slots records ticks) told result before after =
@@ -184,6 +187,9 @@ PlanMeant (plan.Workers p s workers slots records ticks) told result before afte
     WorkersMeant (asked_by slots records ticks) workers told.program told.script result
     before.out after.out before.dev after.dev before.steps after.steps
     × Keeps before.image after.image
+PlanMeant (plan.Emit p prefix header slots records ticks) told result before after =
+    EmitEnds (asked_by slots records ticks) prefix header told.program result before.out after.out
+    × IsUntouched before after
 
 -- What a call means. Words that ask for nothing are a wrong use: this is reported, and nothing is
 -- run or saved.

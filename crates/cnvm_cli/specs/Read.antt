@@ -8,8 +8,11 @@ use Rattle.cnvm_words.specs.declared.plan.Plan.TheVariants as plan
 abbrev pub IsRead : Plan → (program script : Option (List ℕ)) → Type 0
 IsRead (plan.Run p s slots records ticks from save) program script =
     IsAtEnd program × IsAtEnd script
+IsRead (plan.RunPool p s slots records ticks pool) program script =
+    IsAtEnd program × IsAtEnd script
 IsRead (plan.List p) program script = IsAtEnd program
 IsRead (plan.Storm p start count slots records ticks) program script = IsAtEnd program
 IsRead (plan.Why p) program script = IsAtEnd program
 IsRead (plan.Workers p s workers slots records ticks) program script =
     IsAtEnd program × IsAtEnd script
+IsRead (plan.Emit p prefix header slots records ticks) program script = IsAtEnd program

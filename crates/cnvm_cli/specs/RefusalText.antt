@@ -1,5 +1,5 @@
--- What is reported if there is nothing to run: the line, and the status. Of a source or a device
--- that failed, and of want of memory, nothing is reported.
+-- What is reported if there is nothing to run: the line, and the status. Of a source that failed,
+-- and of want of memory, nothing is reported.
 use Rattle.std.specs.Prelude.{ℕ, ℤ, ◌/◌, ◌%◌, zero, suc, List, [], ◌∷◌, ◌++◌, Bool, true, false}
 use Rattle.std.specs.Prelude.{codes, slice_index}
 use Rattle.std.specs.Fmt.{decimal, signed_decimal}
@@ -50,14 +50,14 @@ fault_line image.NoMemory = []
 
 abbrev pub refusal_line : Refused → List ℕ
 refusal_line refused.Usage =
-    codes "usage: cnvm run PROGRAM SCRIPT | list PROGRAM"
-    ++ codes " | storm PROGRAM START COUNT | why PROGRAM | workers PROGRAM SCRIPT\n"
+    codes "usage: cnvm run PROGRAM SCRIPT | list PROGRAM | storm PROGRAM START COUNT"
+    ++ codes " | why PROGRAM | workers PROGRAM SCRIPT | emit PROGRAM\n"
 refusal_line refused.LongProgram = codes "program too long\n"
 refusal_line (refused.Program line complaint) = complaint_line line complaint
 refusal_line refused.LongScript = codes "script too long\n"
 refusal_line (refused.Script number) = codes "script line " ++ (decimal number ++ 10 ∷ [])
 refusal_line (refused.Image fault) = fault_line fault
-refusal_line refused.Device = []
+refusal_line refused.Busy = codes "pool busy\n"
 refusal_line refused.ReadFault = []
 refusal_line refused.NoMemory = []
 
@@ -77,7 +77,7 @@ has_line (refused.Program line complaint) = true
 has_line refused.LongScript = true
 has_line (refused.Script number) = true
 has_line (refused.Image fault) = image_has_line fault
-has_line refused.Device = false
+has_line refused.Busy = true
 has_line refused.ReadFault = false
 has_line refused.NoMemory = false
 
@@ -97,6 +97,6 @@ refusal_status (refused.Program line complaint) = status.Program
 refusal_status refused.LongScript = status.Script
 refusal_status (refused.Script number) = status.Script
 refusal_status (refused.Image fault) = image_status fault
-refusal_status refused.Device = status.DeviceFault
+refusal_status refused.Busy = status.PoolBusy
 refusal_status refused.ReadFault = status.ReadFault
 refusal_status refused.NoMemory = status.NoMemory

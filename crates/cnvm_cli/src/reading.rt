@@ -44,7 +44,6 @@ pub(crate) fn read_program<S: Source>(
     ensures read { IsErrOf result Refused.ReadFault
         → Rose (S.faults source.old) (S.faults source.new) }
     ensures usage { IsErrOf result Refused.Usage → ⊥ }
-    ensures device { IsErrOf result Refused.Device → ⊥ }
 {
     let text = match read_text(alloc, source, MOST_BYTES) {
         Ok(text) => text,
@@ -60,7 +59,6 @@ fn program_of(alloc: Global, text: &[u8], asked: Asked) -> Result<Compiled, Refu
     ensures is { ProgramReadAs asked result (Some text.now) }
     ensures read { IsErrOf result Refused.ReadFault → ⊥ }
     ensures usage { IsErrOf result Refused.Usage → ⊥ }
-    ensures device { IsErrOf result Refused.Device → ⊥ }
 {
     match compile(alloc, text, asked) {
         Ok(compiled) => Ok(compiled),
@@ -72,7 +70,6 @@ fn refused_by(told: Told) -> Refused
     ensures value { result ≡ refused_by told }
     ensures read { result ≡ Refused.ReadFault → ⊥ }
     ensures usage { result ≡ Refused.Usage → ⊥ }
-    ensures device { result ≡ Refused.Device → ⊥ }
 {
     match told {
         Told::Long => Refused::LongProgram,
@@ -88,7 +85,6 @@ pub(crate) fn read_commands<T: Source>(alloc: Global, source: &mut T) -> Result<
     ensures read { IsErrOf result Refused.ReadFault
         → Rose (T.faults source.old) (T.faults source.new) }
     ensures usage { IsErrOf result Refused.Usage → ⊥ }
-    ensures device { IsErrOf result Refused.Device → ⊥ }
 {
     let text = match read_text(alloc, source, SCRIPT_BYTES) {
         Ok(text) => text,
@@ -105,7 +101,6 @@ fn commands_of(alloc: Global, text: &[u8]) -> Result<Script, Refused>
     ensures are { ScriptReadAs result (Some text.now) }
     ensures read { IsErrOf result Refused.ReadFault → ⊥ }
     ensures usage { IsErrOf result Refused.Usage → ⊥ }
-    ensures device { IsErrOf result Refused.Device → ⊥ }
 {
     match read_script(alloc, text) {
         Ok(script) => Ok(script),
@@ -124,7 +119,6 @@ pub(crate) fn read_words<I: Source>(
     ensures read { IsErrOf result Refused.ReadFault
         → Rose (I.faults source.old) (I.faults source.new) }
     ensures usage { IsErrOf result Refused.Usage → ⊥ }
-    ensures device { IsErrOf result Refused.Device → ⊥ }
 {
     let most = 64 * pool_lines(program.image.sizes()) as usize + 1;
     let bytes = match read_up_to(alloc, source, most) {
@@ -140,7 +134,6 @@ pub(crate) fn words_of(alloc: Global, bytes: &[u8], program: &Program) -> Result
     ensures are { ImageIs program.now result bytes.now }
     ensures read { IsErrOf result Refused.ReadFault → ⊥ }
     ensures usage { IsErrOf result Refused.Usage → ⊥ }
-    ensures device { IsErrOf result Refused.Device → ⊥ }
 {
     match read_image(alloc, bytes, &program.wanted()) {
         Ok(words) => {

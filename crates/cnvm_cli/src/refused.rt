@@ -26,18 +26,18 @@ pub enum Refused {
     Script(u64),
     /// The first fault of the image.
     Image(ImageFault),
-    /// The device failed while the pool's lines were written.
-    Device,
+    /// Another process holds the pool's file, or has just made it.
+    Busy,
     ReadFault,
     NoMemory,
 }
 
 /// The usage line.
 const USAGE: &str = "usage: cnvm run PROGRAM SCRIPT | list PROGRAM \
-    | storm PROGRAM START COUNT | why PROGRAM | workers PROGRAM SCRIPT\n";
+    | storm PROGRAM START COUNT | why PROGRAM | workers PROGRAM SCRIPT | emit PROGRAM\n";
 
-/// Reports a refusal; the status is the refusal's. Of a source or a device that failed, and of want
-/// of memory, nothing is reported.
+/// Reports a refusal; the status is the refusal's. Of a source that failed, and of want of memory,
+/// nothing is reported.
 #[tactic(auto, using(session_run::proofs::Running::keeps_same))]
 pub(crate) fn refuse<K: Sink>(alloc: Global, refused: Refused, out: &mut K) -> Status
     ensures refused { RefusedAs refused result (K.written out.old) (K.written out.new) }
@@ -65,7 +65,7 @@ fn has_line(refused: Refused) -> bool
         Refused::LongScript => true,
         Refused::Script(_) => true,
         Refused::Image(fault) => image_has_line(fault),
-        Refused::Device => false,
+        Refused::Busy => true,
         Refused::ReadFault => false,
         Refused::NoMemory => false,
     }
@@ -96,7 +96,7 @@ fn refusal_status(refused: Refused) -> Status
         Refused::LongScript => Status::Script,
         Refused::Script(_) => Status::Script,
         Refused::Image(fault) => image_status(fault),
-        Refused::Device => Status::DeviceFault,
+        Refused::Busy => Status::PoolBusy,
         Refused::ReadFault => Status::ReadFault,
         Refused::NoMemory => Status::NoMemory,
     }
@@ -136,7 +136,7 @@ fn refusal_line(alloc: Global, refused: Refused) -> Result<String, AllocError>
         Refused::LongScript => text_of(alloc, "script too long\n"),
         Refused::Script(line) => script_line(alloc, line),
         Refused::Image(fault) => fault_line(alloc, fault),
-        Refused::Device => text_of(alloc, ""),
+        Refused::Busy => text_of(alloc, "pool busy\n"),
         Refused::ReadFault => text_of(alloc, ""),
         Refused::NoMemory => text_of(alloc, ""),
     }

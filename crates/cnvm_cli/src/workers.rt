@@ -88,7 +88,6 @@ fn read_turns<T: Source>(alloc: Global, source: &mut T) -> Result<WorkersScript,
     ensures read { IsErrOf result Refused.ReadFault
         → Rose (T.faults source.old) (T.faults source.new) }
     ensures usage { IsErrOf result Refused.Usage → ⊥ }
-    ensures device { IsErrOf result Refused.Device → ⊥ }
 {
     let text = match read_text(alloc, source, SCRIPT_BYTES) {
         Ok(text) => text,
@@ -105,7 +104,6 @@ fn turns_of(alloc: Global, text: &[u8]) -> Result<WorkersScript, Refused>
     ensures are { ReadIn workers_script_meaning result (Some text.now) }
     ensures read { IsErrOf result Refused.ReadFault → ⊥ }
     ensures usage { IsErrOf result Refused.Usage → ⊥ }
-    ensures device { IsErrOf result Refused.Device → ⊥ }
 {
     match read_workers(alloc, text) {
         Ok(script) => Ok(script),

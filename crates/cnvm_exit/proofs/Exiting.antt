@@ -6,6 +6,7 @@ use Rattle.session_run.specs.declared.status.Status.{Status}
 use Rattle.session_run.specs.declared.status.Status.TheVariants as status
 use Rattle.cnvm_exit.specs.Exits.{no_sources, new_device, EndsCall}
 use Rattle.cnvm_cli.specs.Meant.{CallMeant}
+use Rattle.cnvm_cli.specs.PoolMeant.{HasPool}
 use Rattle.cnvm_cli.specs.World.{seen}
 use Rattle.cnvm_cli.proofs.Meaning.{memory_meant}
 use Rattle.cnvm_cli.proofs.Faultless.{call_never}
@@ -31,9 +32,9 @@ memory_ends words = (
       (seen None None new_device 0) tt (tt, refl, refl),
 )
 
--- a new device has no armed fault, so it never fails
+-- a new device has no armed fault, so it never fails, but for one over a pool's file
 pub never_ends : (words : List (List ℕ)) (result : Status) → EndsCall words result
-    → result ≡ status.DeviceFault → ⊥
+    → result ≡ status.DeviceFault → HasPool (plan_of words)
 never_ends words result ends is =
     let call : EndsCall words status.DeviceFault = subst (EndsCall words) is ends in
     call_never (plan_of words) no_sources (seen None None new_device 0)

@@ -5,6 +5,7 @@ ghost use Rattle.std.specs.Prelude.{◌≡◌, ◌≢◌, ◌⊎◌, ◌<◌, ma
 ghost use Rattle.nvm_base.specs.Path.{path_of_source, path_of_sink, path_of_saved};
 ghost use Rattle.nvm_base.specs.Path.{source_below, sink_below};
 ghost use Rattle.cnvm_exit.specs.Exits.{EndsCall, Exits};
+ghost use Rattle.cnvm_cli.specs.PoolMeant.{HasPool};
 ghost use Rattle.cnvm_cli.specs.World.{plan_in};
 ghost use Rattle.cnvm_exit.specs.inside.Paths.{path_or_none, program_alone, paths_in};
 
@@ -12,17 +13,21 @@ use crate::notes::{FileWorld, Named, put_bytes, tell_end};
 use cnvm_cli::{World, cnvm};
 use cnvm_session::Traps;
 use cnvm_words::{Plan, WordsFault, plan_of};
+use file_pmem::{FilePmem, Hold, StdFile, StdPools};
 use nvm_base::{KeptSink, KeptSource, SavedFile, StdNotes, StdSink, StdSource, Steps, Text};
-use pmem::SparsePmem;
+use pmem::{SparseLines, SparsePmem};
 use session_run::Status;
 use std::alloc::Global;
 use std::env;
 use std::marker::Brand;
+use std::os::unix::fs::FileExt;
 use std::rt::{Env, Files};
 use std::sync::ledger::{Blank, Ledger};
 
 /// Runs the program on the words of the command line; the answer is its exit status.
 pub fn exit_code<R: Files + Print + Eprint + Env + AllocGlobal>(rt: &R) -> u8
+where
+    R::File: FileExt + Hold,
     ensures { Exits result }
 {
     match words_of(rt) {
@@ -79,6 +84,17 @@ fn paths_in(alloc: Global, plan: Plan) -> Paths
             image_in: given_or_empty(alloc, start_image),
             image_out: given_or_empty(alloc, end_image),
         },
+        Plan::RunPool {
+            program_path,
+            script_path,
+            pool_path,
+            ..
+        } => Paths {
+            program: program_path,
+            script: script_path,
+            image_in: pool_path,
+            image_out: Text::new(alloc),
+        },
         Plan::List { program_path } => program_alone(alloc, program_path),
         Plan::Storm { program_path, .. } => program_alone(alloc, program_path),
         Plan::Why { program_path } => program_alone(alloc, program_path),
@@ -92,6 +108,7 @@ fn paths_in(alloc: Global, plan: Plan) -> Paths
             image_in: Text::new(alloc),
             image_out: Text::new(alloc),
         },
+        Plan::Emit { program_path, .. } => program_alone(alloc, program_path),
     }
 }
 
@@ -119,10 +136,12 @@ fn given_or_empty(alloc: Global, path: Option<Text>) -> Text
 
 /// Runs what these words ask for on the files that they name.
 pub fn run_on<R: Files + Print + Eprint + AllocGlobal>(rt: &R, words: &[String]) -> Status
+where
+    R::File: FileExt + Hold,
     ensures usage { result ≡ Status.Usage → plan_in words.entry.now ≡ None }
     ensures wrong { plan_in words.entry.now ≡ None → (result ≡ Status.Usage)
         ⊎ ((result ≡ Status.NoMemory) ⊎ (result ≡ Status.WriteFault)) }
-    ensures never { result ≢ Status.DeviceFault }
+    ensures never { result ≡ Status.DeviceFault → HasPool (plan_in words.entry.now) }
     ensures source { EndsCall (map string_bytes words.entry.now) result }
 {
     match paths_of(rt.alloc(), words) {
@@ -172,6 +191,8 @@ fn run_with<R: Files + Print + Eprint + AllocGlobal, L: Ledger>(
     paths: &Paths,
     blank: Blank,
 ) -> Status
+where
+    R::File: FileExt + Hold,
     requires name { blank.name ≡ L.name }
     requires parts { blank.parts ≡ L.parts }
     requires some { 0 < blank.parts }
@@ -183,10 +204,20 @@ fn run_with<R: Files + Print + Eprint + AllocGlobal, L: Ledger>(
 {
     let alloc = rt.alloc();
     let mut world = world_on(rt, paths, SparsePmem::new(rt.alloc()));
+    let mut pools = StdPools::new(rt, paths.image_in.as_str());
+    let mut held = FilePmem::<SparseLines, StdFile<R::File>>::new(alloc);
     let mut steps = Steps::<L>::new(blank);
-    let status = cnvm(alloc, words, &mut world, &mut steps);
+    let status = cnvm(alloc, words, &mut world, &mut pools, &mut held, &mut steps);
     let mut notes = StdNotes::new(rt);
-    tell_end(alloc, words, names_of(paths), status, &world, &mut notes);
+    tell_end(
+        alloc,
+        words,
+        names_of(paths),
+        status,
+        &world,
+        pools.reason(),
+        &mut notes,
+    );
     status
 }
 

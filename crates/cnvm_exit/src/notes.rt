@@ -8,7 +8,7 @@ use cnvm_notes::{
 };
 use cnvm_session::{Trapped, Traps};
 use cnvm_words::{Plan, plan_of};
-use nvm_base::{KeptSink, KeptSource, SavedFile, Sink, StdSink, StdSource, write_all};
+use nvm_base::{KeptSink, KeptSource, Reason, SavedFile, Sink, StdSink, StdSource, write_all};
 use plain_notes::{
     Digests, ImageRefusal, Told, message_of, of_image, of_words, unread, unsaved, unwritten,
 };
@@ -37,7 +37,7 @@ pub(crate) struct Named<'a> {
     pub image_out: &'a str,
 }
 
-/// Tells how a run ended. Where there is no memory for the message a short one is written; where
+/// Tells how a run ended; `pool` is why a pool's file couldn't be opened or made. Where there is no memory for the message a short one is written; where
 /// the sink fails none is.
 pub(crate) fn tell_end<R: Files + Print + AllocGlobal, P: Drop, N: Sink>(
     alloc: Global,
@@ -45,9 +45,10 @@ pub(crate) fn tell_end<R: Files + Print + AllocGlobal, P: Drop, N: Sink>(
     named: Named<'_>,
     status: Status,
     world: &FileWorld<'_, R, P>,
+    pool: Option<Reason>,
     notes: &mut N,
 ) {
-    let message = match message(alloc, words, named, status, world) {
+    let message = match message(alloc, words, named, status, world, pool) {
         Ok(Some(message)) => message,
         Ok(None) => return,
         Err(_) => return put_bytes(notes, b"cnvm: out of memory\n"),
@@ -69,6 +70,7 @@ fn message<R: Files + Print + AllocGlobal, P: Drop>(
     named: Named<'_>,
     status: Status,
     world: &FileWorld<'_, R, P>,
+    pool: Option<Reason>,
 ) -> Result<Option<String>, AllocError> {
     match status {
         Status::Done => of_done(alloc, words, named, world),
@@ -76,11 +78,42 @@ fn message<R: Files + Print + AllocGlobal, P: Drop>(
         Status::Usage => Ok(Some(of_words(alloc, words)?)),
         Status::Program => of_program(alloc, named.program, world.program.kept()),
         Status::Script => of_script(alloc, words, named.script, world.script.kept()),
-        Status::ReadFault => Ok(Some(of_read(alloc, named, world)?)),
+        Status::ReadFault => Ok(Some(of_read(alloc, named, world, pool)?)),
         Status::WriteFault => Ok(Some(of_write(alloc, named, world)?)),
-        Status::DeviceFault => plain(alloc, "the device failed while the pool was made"),
+        Status::DeviceFault => of_device(alloc, words, named, pool),
+        Status::PoolBusy => busy(alloc, named.image_in),
         Status::Image => of_refused_image(alloc, words, named, world),
     }
+}
+
+/// The message of a device that failed, or of a pool's file that couldn't be made or refused
+/// something.
+fn of_device(
+    alloc: Global,
+    words: &[String],
+    named: Named<'_>,
+    pool: Option<Reason>,
+) -> Result<Option<String>, AllocError> {
+    if pool.is_some() {
+        let told = unsaved(alloc, named.image_in, pool)?;
+        return Ok(Some(message_of(alloc, &told)?));
+    }
+    match plan_of(alloc, words) {
+        Ok(Plan::RunPool { .. }) => {
+            let what = format!(in alloc;
+                "{}: the file refused a write or a sync; the next opening finds what is durable",
+                named.image_in
+            )?;
+            plain(alloc, what.as_str())
+        }
+        _ => plain(alloc, "the device failed while the pool was made"),
+    }
+}
+
+/// The message of a pool's file that another process holds.
+fn busy(alloc: Global, path: &str) -> Result<Option<String>, AllocError> {
+    let what = format!(in alloc; "{path}: another process holds this pool, or has just made it")?;
+    plain(alloc, what.as_str())
 }
 
 fn plain(alloc: Global, what: &str) -> Result<Option<String>, AllocError> {
@@ -173,6 +206,7 @@ fn of_plan<'a>(
 ) -> Result<Option<String>, AllocError> {
     match plan {
         Plan::Run { start_image, .. } => of_run(alloc, named, texts, traps, start_image.is_some()),
+        Plan::RunPool { .. } => of_run(alloc, named, texts, traps, true),
         Plan::Workers { .. } => {
             let run = WorkersTexts {
                 program_path: named.program,
@@ -194,7 +228,7 @@ fn of_plan<'a>(
             };
             storm_note(alloc, named.program, texts.answers, stormed)
         }
-        Plan::List { .. } | Plan::Why { .. } => Ok(None),
+        Plan::List { .. } | Plan::Why { .. } | Plan::Emit { .. } => Ok(None),
     }
 }
 
@@ -235,6 +269,7 @@ fn of_read<R: Files + Print + AllocGlobal, P: Drop>(
     alloc: Global,
     named: Named<'_>,
     world: &FileWorld<'_, R, P>,
+    pool: Option<Reason>,
 ) -> Result<String, AllocError> {
     let program = world.program.source().reason();
     let script = world.script.source().reason();
@@ -242,6 +277,8 @@ fn of_read<R: Files + Print + AllocGlobal, P: Drop>(
         unread(alloc, named.program, program)?
     } else if script.is_some() {
         unread(alloc, named.script, script)?
+    } else if pool.is_some() {
+        unread(alloc, named.image_in, pool)?
     } else {
         unread(alloc, named.image_in, world.image_in.source().reason())?
     };

@@ -2,8 +2,9 @@
 
 use crate::byte_sink::ByteSink;
 use cnvm_cli::{Status, Traps, World, cnvm};
+use file_pmem::{FilePmem, MemFile, MemPools, Place};
 use nvm_base::{MemSource, Steps};
-use pmem::Pmem;
+use pmem::{Pmem, SparseLines};
 use std::alloc::{AllocError, Global};
 use std::sync::ledger::Ledger;
 
@@ -76,7 +77,9 @@ pub(crate) fn run<P: Pmem + Drop, L: Ledger>(
         dev,
         traps: Traps::new(),
     };
-    let status = cnvm(alloc, &words, &mut world, steps);
+    let mut pools = MemPools::new(alloc, Place::Nothing, &[])?;
+    let mut held = FilePmem::<SparseLines, MemFile>::new(alloc);
+    let status = cnvm(alloc, &words, &mut world, &mut pools, &mut held, steps);
     Ok(Ended {
         status,
         out: Vec::from_slice(alloc, world.out.bytes())?,

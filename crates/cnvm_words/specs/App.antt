@@ -1,12 +1,16 @@
--- The words in clap's terms: one command with the subcommands run, list, storm, why and workers.
--- Each option is named in full, takes one value and is given at most once; help and version are
--- off.
+-- The words in clap's terms: one command with the subcommands run, list, storm, why, workers and
+-- emit. Each option is named in full, takes one value, but for a flag, and is given at most once;
+-- help and version are off.
 use Rattle.std.specs.Prelude.{Some, true, codes}
 use Rattle.clap.specs.Words.{App, Rule, Text, new_app, new_rule, with_rule, with_subcommand}
-use Rattle.clap.specs.declared.builder.action.ArgAction.TheVariants.{Set}
+use Rattle.clap.specs.declared.builder.action.ArgAction.TheVariants.{Set, SetTrue}
 
 abbrev pub option_rule : Text → Rule
 option_rule name = record (new_rule name) { long = Some name; action = Some Set }
+
+-- an option without a value
+abbrev pub flag_rule : Text → Rule
+flag_rule name = record (new_rule name) { long = Some name; action = Some SetTrue }
 
 abbrev pub place_rule : Text → Rule
 place_rule name = record (new_rule name) { action = Some Set; required = true }
@@ -16,14 +20,17 @@ abbrev pub sized : App → App
 sized app = with_rule (with_rule (with_rule app (option_rule (codes "slots")))
     (option_rule (codes "log"))) (option_rule (codes "ticks"))
 
+-- a command with the options for the files of a pool
+abbrev pub filed : App → App
+filed app = with_rule (with_rule (with_rule app (option_rule (codes "open")))
+    (option_rule (codes "save"))) (option_rule (codes "pool"))
+
 abbrev pub run_app : App
 run_app =
     sized
-    (with_rule
-    (with_rule (with_rule (with_rule (new_app (codes "run")) (place_rule (codes "program")))
-    (place_rule (codes "script")))
-    (option_rule (codes "open")))
-    (option_rule (codes "save")))
+    (filed
+    (with_rule (with_rule (new_app (codes "run")) (place_rule (codes "program")))
+    (place_rule (codes "script"))))
 
 abbrev pub list_app : App
 list_app = with_rule (new_app (codes "list")) (place_rule (codes "program"))
@@ -47,6 +54,14 @@ workers_app =
     (place_rule (codes "script")))
     (option_rule (codes "workers")))
 
+abbrev pub emit_app : App
+emit_app =
+    sized
+    (with_rule
+    (with_rule (with_rule (new_app (codes "emit")) (place_rule (codes "program")))
+    (option_rule (codes "prefix")))
+    (flag_rule (codes "header")))
+
 -- the words have no program name, and a subcommand is required
 abbrev pub bare_app : App
 bare_app = let a = new_app (codes "cnvm") in record a {
@@ -59,9 +74,10 @@ bare_app = let a = new_app (codes "cnvm") in record a {
   };
 }
 
--- a command with the subcommands why and workers
+-- a command with the subcommands why, workers and emit
 abbrev pub with_others : App → App
-with_others app = with_subcommand (with_subcommand app why_app.top) workers_app.top
+with_others app =
+    with_subcommand (with_subcommand (with_subcommand app why_app.top) workers_app.top) emit_app.top
 
 unfoldable pub cnvm_app : App
 cnvm_app =

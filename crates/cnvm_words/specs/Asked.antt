@@ -1,15 +1,17 @@
 -- What the words ask for: they are read by clap, and then each number is read, which has 1 to 10
 -- digits and lies within its limits.
 use Rattle.std.specs.Prelude.{ℕ, ◌≤◌, List, Option, None, Some, nat_le, ◌&&◌, if◌then◌else◌}
+use Rattle.std.specs.Prelude.{Bool, false}
 use Rattle.std.specs.Prelude.{codes, option_and_then, option_map}
 use Rattle.std.specs.Str.{bytes_eq}
 use Rattle.clap.specs.Walk.{is_empty}
 use Rattle.clap.specs.Words.{Text, Row, first_of, fault_of, subcommand_of}
 use Rattle.cnvm_script.specs.Number.{bounded_numeral}
 use Rattle.cnvm_words.specs.App.{cnvm_app}
+use Rattle.cnvm_words.specs.Prefix.{asked_prefix}
 use Rattle.cnvm_words.specs.declared.plan.Plan.{Plan}
 use Rattle.cnvm_words.specs.declared.plan.Plan.TheVariants.{Run, List as Listing, Storm, Why}
-use Rattle.cnvm_words.specs.declared.plan.Plan.TheVariants.{Workers}
+use Rattle.cnvm_words.specs.declared.plan.Plan.TheVariants.{Workers, Emit, RunPool}
 
 abbrev pub in_limits : (least most n : ℕ) → Option ℕ
 in_limits least most n = if nat_le least n && nat_le n most then Some n else None
@@ -32,11 +34,20 @@ asked_pool rows =
     (number_or 256 1 4096 (first_of (codes "log") rows)))
     (number_or 1024 1 65535 (first_of (codes "slots") rows))
 
+-- a pool's file isn't named together with an image
+abbrev pub run_on : (program script : List ℕ) → (slots records ticks : ℕ)
+    → (opened saved pool : Option (List ℕ)) → Option Plan
+run_on program script slots records ticks opened saved None =
+    Some (Run program script slots records ticks opened saved)
+run_on program script slots records ticks None None (Some pool) =
+    Some (RunPool program script slots records ticks pool)
+run_on program script slots records ticks _ _ (Some pool) = None
+
 abbrev pub run_plan : List Row → Option Plan
 run_plan rows =
-    option_and_then (λ program. option_and_then (λ script. option_map (λ pool.
-    Run program script pool.0 pool.1 pool.2 (first_of (codes "open") rows)
-    (first_of (codes "save") rows))
+    option_and_then (λ program. option_and_then (λ script. option_and_then (λ sizes.
+    run_on program script sizes.0 sizes.1 sizes.2 (first_of (codes "open") rows)
+    (first_of (codes "save") rows) (first_of (codes "pool") rows))
     (asked_pool rows))
     (first_of (codes "script") rows))
     (first_of (codes "program") rows)
@@ -66,6 +77,19 @@ workers_plan rows =
     (first_of (codes "script") rows))
     (first_of (codes "program") rows)
 
+-- a flag's value is a word of clap's
+abbrev pub is_set : Option (List ℕ) → Bool
+is_set None = false
+is_set (Some text) = bytes_eq text (codes "true")
+
+abbrev pub emit_plan : List Row → Option Plan
+emit_plan rows =
+    option_and_then (λ program. option_and_then (λ prefix. option_map (λ pool.
+    Emit program prefix (is_set (first_of (codes "header") rows)) pool.0 pool.1 pool.2)
+    (asked_pool rows))
+    (asked_prefix program (first_of (codes "prefix") rows)))
+    (first_of (codes "program") rows)
+
 -- the plan of a subcommand with these rows
 abbrev pub subcommand_plan : Text → List Row → Option Plan
 subcommand_plan name rows =
@@ -73,7 +97,8 @@ subcommand_plan name rows =
     else (if bytes_eq name (codes "list") then list_plan rows
     else (if bytes_eq name (codes "why") then why_plan rows
     else (if bytes_eq name (codes "workers") then workers_plan rows
-    else storm_plan rows)))
+    else (if bytes_eq name (codes "emit") then emit_plan rows
+    else storm_plan rows))))
 
 -- the plan of the words; none if they ask for nothing that exists
 abbrev pub plan_of : List Text → Option Plan

@@ -1,10 +1,12 @@
-//! The command as `clap` knows it: five subcommands, whose options take one value each.
+//! The command as `clap` knows it: six subcommands. Their options take one value each, but for one
+//! that is a flag.
 
 ghost use Rattle.std.specs.Prelude.{◌≡◌, false, IfOk};
 ghost use Rattle.clap.specs.declared.builder.command.Command.TheViews.{out-Command as fields_of};
 ghost use Rattle.clap.specs.Words.{app_of, rule_of};
-ghost use Rattle.cnvm_words.specs.App.{option_rule, place_rule, bare_app, sized, run_app, list_app};
-ghost use Rattle.cnvm_words.specs.App.{storm_app, why_app, workers_app, with_others, cnvm_app};
+ghost use Rattle.cnvm_words.specs.App.{option_rule, flag_rule, place_rule, bare_app, sized, filed};
+ghost use Rattle.cnvm_words.specs.App.{run_app, list_app, storm_app, why_app, workers_app, emit_app};
+ghost use Rattle.cnvm_words.specs.App.{with_others, cnvm_app};
 
 use clap::{Arg, ArgAction, Command};
 use std::alloc::{AllocError, Global};
@@ -14,6 +16,13 @@ fn option_arg<'a>(alloc: Global, name: &'a str) -> Arg<'a>
     ensures local { result.global ≡ false }
 {
     Arg::new(alloc, name).long(name).action(ArgAction::Set)
+}
+
+fn flag_arg<'a>(alloc: Global, name: &'a str) -> Arg<'a>
+    ensures rule { rule_of result ≡ flag_rule name.entry.now }
+    ensures local { result.global ≡ false }
+{
+    Arg::new(alloc, name).long(name).action(ArgAction::SetTrue)
 }
 
 fn place_arg<'a>(alloc: Global, name: &'a str) -> Arg<'a>
@@ -47,15 +56,24 @@ fn with_sizes<'a>(alloc: Global, command: Command<'a>) -> Result<Command<'a>, Al
     command.arg(option_arg(alloc, "ticks"))
 }
 
+/// A command with the options of a pool's files.
+fn with_files<'a>(alloc: Global, command: Command<'a>) -> Result<Command<'a>, AllocError>
+    requires { (fields_of command).has_globals ≡ false }
+    ensures app { IfOk result (λ r. app_of r ≡ filed (app_of command.entry)) }
+    ensures local { IfOk result (λ r. (fields_of r).has_globals ≡ false) }
+{
+    let command = command.arg(option_arg(alloc, "open"))?;
+    let command = command.arg(option_arg(alloc, "save"))?;
+    command.arg(option_arg(alloc, "pool"))
+}
+
 fn run_command<'a>(alloc: Global) -> Result<Command<'a>, AllocError>
     ensures app { IfOk result (λ r. app_of r ≡ run_app) }
     ensures local { IfOk result (λ r. (fields_of r).has_globals ≡ false) }
 {
     let command = Command::new(alloc, "run").arg(place_arg(alloc, "program"))?;
     let command = command.arg(place_arg(alloc, "script"))?;
-    let command = command.arg(option_arg(alloc, "open"))?;
-    let command = command.arg(option_arg(alloc, "save"))?;
-    with_sizes(alloc, command)
+    with_sizes(alloc, with_files(alloc, command)?)
 }
 
 fn list_command<'a>(alloc: Global) -> Result<Command<'a>, AllocError>
@@ -92,14 +110,25 @@ fn workers_command<'a>(alloc: Global) -> Result<Command<'a>, AllocError>
     with_sizes(alloc, command)
 }
 
-/// A command with the subcommands `why` and `workers`.
+fn emit_command<'a>(alloc: Global) -> Result<Command<'a>, AllocError>
+    ensures app { IfOk result (λ r. app_of r ≡ emit_app) }
+    ensures local { IfOk result (λ r. (fields_of r).has_globals ≡ false) }
+{
+    let command = Command::new(alloc, "emit").arg(place_arg(alloc, "program"))?;
+    let command = command.arg(option_arg(alloc, "prefix"))?;
+    let command = command.arg(flag_arg(alloc, "header"))?;
+    with_sizes(alloc, command)
+}
+
+/// A command with the subcommands `why`, `workers` and `emit`.
 fn with_others<'a>(alloc: Global, command: Command<'a>) -> Result<Command<'a>, AllocError>
     requires { (fields_of command).has_globals ≡ false }
     ensures app { IfOk result (λ r. app_of r ≡ with_others (app_of command.entry)) }
     ensures local { IfOk result (λ r. (fields_of r).has_globals ≡ false) }
 {
     let command = command.subcommand(why_command(alloc)?)?;
-    command.subcommand(workers_command(alloc)?)
+    let command = command.subcommand(workers_command(alloc)?)?;
+    command.subcommand(emit_command(alloc)?)
 }
 
 /// The whole command.

@@ -5,6 +5,7 @@
 
 mod command;
 mod plan;
+mod prefix;
 mod read;
 
 pub use plan::{Plan, WordsFault};

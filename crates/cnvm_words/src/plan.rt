@@ -17,6 +17,15 @@ pub enum Plan {
         start_image: Option<Text>,
         end_image: Option<Text>,
     },
+    /// Runs the script's commands on the pool of a file. The sizes are as for `Run`.
+    RunPool {
+        program_path: Text,
+        script_path: Text,
+        slots: u64,
+        records: u64,
+        ticks: u64,
+        pool_path: Text,
+    },
     /// Prints the log marks of the program.
     List {
         program_path: Text,
@@ -39,6 +48,16 @@ pub enum Plan {
         program_path: Text,
         script_path: Text,
         workers: u64,
+        slots: u64,
+        records: u64,
+        ticks: u64,
+    },
+    /// Prints the program's transactions as C, or the header of that file. All names in it begin
+    /// with the prefix, which is a name.
+    Emit {
+        program_path: Text,
+        prefix: Text,
+        header: bool,
         slots: u64,
         records: u64,
         ticks: u64,

@@ -10,10 +10,12 @@ ghost use Rattle.clap.specs.declared.error.kind.ErrorKind.TheVariants.{OutOfMemo
 ghost use Rattle.cnvm_words.specs.App.{cnvm_app};
 ghost use Rattle.cnvm_words.specs.Asked.{in_limits, number_between, number_or, asked_pool};
 ghost use Rattle.cnvm_words.specs.Asked.{run_plan, list_plan, storm_plan, why_plan, workers_plan};
-ghost use Rattle.cnvm_words.specs.Asked.{subcommand_plan, plan_of, HasWorkers};
+ghost use Rattle.cnvm_words.specs.Asked.{is_set, emit_plan, subcommand_plan, plan_of, HasWorkers};
+ghost use Rattle.cnvm_words.specs.Prefix.{asked_prefix};
 
 use crate::command::cnvm_command;
 use crate::plan::{Plan, WordsFault};
+use crate::prefix::{default_prefix, is_prefix};
 use clap::ArgMatches;
 use clap::error::{Error, ErrorKind};
 use cnvm_script::numeral;
@@ -116,14 +118,29 @@ fn run_plan(alloc: Global, matches: &ArgMatches<'_>) -> Result<Plan, WordsFault>
     let Some((slots, records, ticks)) = pool_of(matches) else {
         return Err(WordsFault::Usage);
     };
-    Ok(Plan::Run {
+    let start_image = image_at(alloc, matches, "open")?;
+    let end_image = image_at(alloc, matches, "save")?;
+    let Some(pool_path) = image_at(alloc, matches, "pool")? else {
+        return Ok(Plan::Run {
+            program_path,
+            script_path,
+            slots,
+            records,
+            ticks,
+            start_image,
+            end_image,
+        });
+    };
+    if start_image.is_some() || end_image.is_some() {
+        return Err(WordsFault::Usage);
+    }
+    Ok(Plan::RunPool {
         program_path,
         script_path,
         slots,
         records,
         ticks,
-        start_image: image_at(alloc, matches, "open")?,
-        end_image: image_at(alloc, matches, "save")?,
+        pool_path,
     })
 }
 
@@ -208,6 +225,51 @@ fn workers_plan(alloc: Global, matches: &ArgMatches<'_>) -> Result<Plan, WordsFa
     })
 }
 
+/// Whether a flag was given.
+fn has_flag(matches: &ArgMatches<'_>, id: &str) -> bool
+    ensures { result ≡ is_set (first_of id.now (rows_of (found_of matches.now))) }
+{
+    match text_at(matches, id) {
+        Some(value) => value == "true",
+        None => false,
+    }
+}
+
+/// The prefix of the names in the C file of the program at this path.
+fn prefix_at(alloc: Global, matches: &ArgMatches<'_>, path: &str) -> Result<Text, WordsFault>
+    ensures ok { IfOk result (λ t. asked_prefix path.now
+        (first_of (codes "prefix") (rows_of (found_of matches.now))) ≡ Some t) }
+    ensures usage { result ≡ Err WordsFault.Usage → asked_prefix path.now
+        (first_of (codes "prefix") (rows_of (found_of matches.now))) ≡ None }
+{
+    match text_at(matches, "prefix") {
+        None => Ok(copied(alloc, default_prefix(path))?),
+        Some(name) if is_prefix(name) => Ok(copied(alloc, name)?),
+        Some(_) => Err(WordsFault::Usage),
+    }
+}
+
+fn emit_plan(alloc: Global, matches: &ArgMatches<'_>) -> Result<Plan, WordsFault>
+    ensures ok { IfOk result (λ p. emit_plan (rows_of (found_of matches.now)) ≡ Some p) }
+    ensures few { IfOk result (λ p. HasWorkers p) }
+    ensures usage { result ≡ Err WordsFault.Usage
+        → emit_plan (rows_of (found_of matches.now)) ≡ None }
+{
+    let program_path = path_at(alloc, matches, "program")?;
+    let prefix = prefix_at(alloc, matches, program_path.as_str())?;
+    let Some((slots, records, ticks)) = pool_of(matches) else {
+        return Err(WordsFault::Usage);
+    };
+    Ok(Plan::Emit {
+        program_path,
+        prefix,
+        header: has_flag(matches, "header"),
+        slots,
+        records,
+        ticks,
+    })
+}
+
 /// The plan of a subcommand.
 fn planned(alloc: Global, name: &str, matches: &ArgMatches<'_>) -> Result<Plan, WordsFault>
     ensures ok { IfOk result (λ p. subcommand_plan name.now (rows_of (found_of matches.now))
@@ -227,6 +289,9 @@ fn planned(alloc: Global, name: &str, matches: &ArgMatches<'_>) -> Result<Plan, 
     }
     if name == "workers" {
         return workers_plan(alloc, matches);
+    }
+    if name == "emit" {
+        return emit_plan(alloc, matches);
     }
     storm_plan(alloc, matches)
 }

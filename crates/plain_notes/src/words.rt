@@ -59,6 +59,12 @@ const WORKER_COUNT: Number = Number {
 /// The numbers by their words.
 const NUMBERS: [Number; 6] = [SLOTS, LOG, TICKS, WORKER_COUNT, START, COUNT];
 
+/// How the runtime's own names begin, up to a `_`.
+const OWN_HEADS: [&[u8]; 4] = [b"cn", b"cnvm", b"CN", b"CNVM"];
+
+/// The option that takes no value.
+const HEADER: &str = "--header";
+
 /// One command: the names of its places, and its options.
 #[derive(Clone, Copy)]
 struct Shape {
@@ -70,7 +76,9 @@ struct Shape {
 const RUN: Shape = Shape {
     name: "run",
     places: &["PROGRAM", "SCRIPT"],
-    options: &[b"--open", b"--save", b"--slots", b"--log", b"--ticks"],
+    options: &[
+        b"--open", b"--save", b"--pool", b"--slots", b"--log", b"--ticks",
+    ],
 };
 
 const LIST: Shape = Shape {
@@ -97,16 +105,23 @@ const WORKERS: Shape = Shape {
     options: &[b"--workers", b"--slots", b"--log", b"--ticks"],
 };
 
-const SHAPES: [Shape; 5] = [RUN, LIST, STORM, WHY, WORKERS];
+const EMIT: Shape = Shape {
+    name: "emit",
+    places: &["PROGRAM"],
+    options: &[b"--prefix", b"--header", b"--slots", b"--log", b"--ticks"],
+};
+
+const SHAPES: [Shape; 6] = [RUN, LIST, STORM, WHY, WORKERS, EMIT];
 
 /// The names of the commands.
-const COMMANDS: [&[u8]; 5] = [b"run", b"list", b"storm", b"why", b"workers"];
+const COMMANDS: [&[u8]; 6] = [b"run", b"list", b"storm", b"why", b"workers", b"emit"];
 
 /// The commands and the options with their defaults.
-const HELP: [&str; 16] = [
+const HELP: [&str; 20] = [
     "cnvm run PROGRAM SCRIPT          runs the script's calls on a new pool",
     "    --open IMAGE                 runs them on the pool of a saved image",
     "    --save IMAGE                 saves the pool at the end",
+    "    --pool FILE                  keeps the pool in a file, without these two",
     "cnvm list PROGRAM                tells of each store whether it is logged",
     "cnvm storm PROGRAM START COUNT   runs rounds of drawn calls and power cuts",
     "    START                        chooses them, from 0 to 2147483647",
@@ -114,7 +129,10 @@ const HELP: [&str; 16] = [
     "cnvm why PROGRAM                 tells why each logged store is logged",
     "cnvm workers PROGRAM SCRIPT      runs the script's calls of several workers",
     "    --workers W                  how many, from 1 to 8; without it 2",
-    "run, storm and workers have these options too:",
+    "cnvm emit PROGRAM                prints the transactions as a C file",
+    "    --prefix NAME                begins its names; without it the file's name, or pool",
+    "    --header                     prints the header of that file",
+    "run, storm, workers and emit have these options too:",
     "    --slots N                    slots for objects, from 1 to 65535; without it 1024",
     "    --log N                      records of the log, from 1 to 4096; without it 256",
     "    --ticks N                    ticks of a call, from 1 to 1000000; without it 100000",
@@ -142,7 +160,7 @@ fn push_lines(message: &mut String, lines: &[&str]) -> Result<(), AllocError> {
 
 fn push_wrong(alloc: Global, message: &mut String, words: &[String]) -> Result<(), AllocError> {
     let Some((first, rest)) = words.split_first() else {
-        return message.push_str("a command is missing: run, list, storm, why or workers");
+        return message.push_str("a command is missing: run, list, storm, why, workers or emit");
     };
     match shape_of(&SHAPES, first.as_str()) {
         Some(shape) => {
@@ -170,7 +188,7 @@ fn push_no_command(alloc: Global, message: &mut String, word: &str) -> Result<()
     message.push_str(": there is no such command; ")?;
     match nearest(word.as_bytes(), &COMMANDS) {
         Some(near) => push_near(alloc, message, near),
-        None => message.push_str("there are run, list, storm, why and workers"),
+        None => message.push_str("there are run, list, storm, why, workers and emit"),
     }
 }
 
@@ -281,7 +299,7 @@ impl<'a> Read<'a> {
         let (option, value) = parts_of(word);
         let wrong = wrong_option(self.shape, &self.given, option, value);
         self.given.push(option.as_bytes())?;
-        if value.is_none() {
+        if value.is_none() && option != HEADER {
             self.open = Some(option);
         }
         Ok(wrong)
@@ -291,9 +309,14 @@ impl<'a> Read<'a> {
     fn end(&self) -> Wrong<'a> {
         match self.open {
             Some(option) => Wrong::new(option, ": its value is missing"),
-            None => missing(self.shape, self.places),
+            None => missing(self.shape, self.places, &self.given),
         }
     }
+}
+
+/// Whether a pool's file was given together with an image.
+fn has_two_pools(given: &[&[u8]]) -> bool {
+    has(given, b"--pool") && (has(given, b"--open") || has(given, b"--save"))
 }
 
 /// What is wrong with a word at a place.
@@ -331,11 +354,18 @@ fn wrong_option<'a>(
     if has(given, option.as_bytes()) {
         return Some(Wrong::new(option, ": is given twice"));
     }
-    wrong_value(&NUMBERS, option, value?)
+    let value = value?;
+    if option == HEADER {
+        return Some(Wrong::new(option, ": takes no value"));
+    }
+    wrong_value(&NUMBERS, option, value)
 }
 
-/// What is wrong with the value of an option or of a place, if that is a number.
+/// What is wrong with the value of an option or of a place, if that is a number or a prefix.
 fn wrong_value<'a>(numbers: &[Number], name: &str, value: &'a str) -> Option<Wrong<'a>> {
+    if name == "--prefix" {
+        return wrong_prefix(value);
+    }
     for number in numbers {
         if number.name == name {
             return wrong_number(number, value);
@@ -361,6 +391,44 @@ fn wrong_number<'a>(number: &Number, word: &'a str) -> Option<Wrong<'a>> {
     })
 }
 
+/// What is wrong with a prefix.
+fn wrong_prefix<'a>(word: &'a str) -> Option<Wrong<'a>> {
+    let after = if !is_c_name(word.as_bytes()) {
+        " is no name of C"
+    } else if has(&OWN_HEADS, head_of(word.as_bytes())) {
+        " begins the runtime's own names; choose another"
+    } else {
+        return None;
+    };
+    Some(Wrong {
+        word: "--prefix",
+        middle: ": ",
+        other: word,
+        after,
+        limits: "",
+        near: None,
+    })
+}
+
+/// A name up to its first `_`.
+fn head_of(name: &[u8]) -> &[u8] {
+    let length = name.iter().take_while(|byte| **byte != b'_').count();
+    &name[..length]
+}
+
+/// Whether this is a letter or `_`, and then letters, digits and `_`.
+fn is_c_name(word: &[u8]) -> bool {
+    let Some(first) = word.first() else {
+        return false;
+    };
+    for byte in word {
+        if !byte.is_ascii_alphanumeric() && *byte != b'_' {
+            return false;
+        }
+    }
+    !first.is_ascii_digit()
+}
+
 /// The number of 1 to 10 decimal digits.
 fn plain_number(word: &str) -> Option<u64> {
     let digits = word.as_bytes();
@@ -379,10 +447,16 @@ fn plain_number(word: &str) -> Option<u64> {
     Some(value)
 }
 
-/// The first place whose word is missing.
-fn missing<'a>(shape: Shape, places: usize) -> Wrong<'a> {
+/// The first place whose word is missing, or the options that don't go together.
+fn missing<'a>(shape: Shape, places: usize, given: &[&[u8]]) -> Wrong<'a> {
     match shape.places.get(places) {
         Some(place) => Wrong::of(place, shape.name, "` needs this word"),
+        None if has_two_pools(given) => {
+            Wrong::new(
+                "--pool",
+                ": the pool is the file; leave `--open` and `--save` out",
+            )
+        }
         None => Wrong::new("", "these words ask for nothing that exists"),
     }
 }

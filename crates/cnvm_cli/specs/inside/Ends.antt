@@ -11,6 +11,7 @@ use Rattle.cnvm_words.specs.declared.plan.Plan.{Plan}
 use Rattle.cnvm_words.specs.declared.plan.Plan.TheVariants as plan
 use Rattle.cnvm_cli.specs.declared.refused.Refused.{Refused}
 use Rattle.session_run.specs.declared.status.Status.{Status}
+use Rattle.cnvm_cli.specs.Emitted.{EmitEnds}
 use Rattle.cnvm_cli.specs.Listed.{ListEnds}
 use Rattle.cnvm_cli.specs.Meant.{Start, Fresh, FromImage, start_if}
 use Rattle.cnvm_cli.specs.Run.{RefusedAs}
@@ -80,6 +81,8 @@ abbrev pub PlanEnds : Plan → Sources → Status → (before after : Outside) �
 PlanEnds (plan.Run p s slots records ticks from save) told result before after =
     RunEnds (asked_by slots records ticks) told (is_some from)
     (is_some save) result before after
+PlanEnds (plan.RunPool p s slots records ticks pool) told result before after =
+    Keeps before.image after.image × (after.dev ≡ before.dev)
 PlanEnds (plan.List p) told result before after =
     ListEnds told.program result before.out after.out × IsUntouched before after
 PlanEnds (plan.Storm p start count slots records ticks) told result before after =
@@ -93,3 +96,6 @@ PlanEnds (plan.Workers p s workers slots records ticks) told result before after
     WorkersEnds (asked_by slots records ticks) workers told.program told.script result
     before.out after.out before.dev after.dev before.steps after.steps
     × Keeps before.image after.image
+PlanEnds (plan.Emit p prefix header slots records ticks) told result before after =
+    EmitEnds (asked_by slots records ticks) prefix header told.program result before.out after.out
+    × IsUntouched before after

@@ -1,5 +1,5 @@
--- Which path is whose: the program's, the script's, that of the image that is opened, and that of
--- the one that is saved. Where the words name none, the path is empty.
+-- Which path is whose: the program's, the script's, that of the image that is opened or of the
+-- pool's file, and that of the image that is saved. Where the words name none, the path is empty.
 use Rattle.std.specs.Prelude.{ℕ, List, [], Option, Some, None}
 use Rattle.cnvm_words.specs.declared.plan.Plan.{Plan}
 use Rattle.cnvm_words.specs.declared.plan.Plan.TheVariants as plan
@@ -20,6 +20,12 @@ paths_in (Some (plan.Run program script slots records ticks opened saved)) = rec
   image_in = path_or_none opened;
   image_out = path_or_none saved;
 }
+paths_in (Some (plan.RunPool program script slots records ticks pool)) = record {
+  program = program;
+  script = script;
+  image_in = pool;
+  image_out = [];
+}
 paths_in (Some (plan.List program)) = program_alone program
 paths_in (Some (plan.Storm program start count slots records ticks)) = program_alone program
 paths_in (Some (plan.Why program)) = program_alone program
@@ -29,3 +35,4 @@ paths_in (Some (plan.Workers program script workers slots records ticks)) = reco
   image_in = [];
   image_out = [];
 }
+paths_in (Some (plan.Emit program prefix header slots records ticks)) = program_alone program

@@ -1,3 +1,5 @@
+use Rattle.std.proofs.Common.{refl}
+use Rattle.session_run.proofs.Running.{keeps_same}
 use Rattle.cnvm_cli.proofs.run.run_plan.Goals as goal
 
 pub returns-in-Run-clause-ends : goal.returns-in-Run-clause-ends
@@ -18,3 +20,12 @@ pub returns-in-Workers-clause-ends : goal.returns-in-Workers-clause-ends
 returns-in-Workers-clause-ends g c =
     rw (c.in-Workers.is, ← c.asked_by-asked-in-Workers.ensures)
     (c.run_script.ensures.ends, c.run_script.ensures.image)
+
+pub returns-in-Emit-clause-ends : goal.returns-in-Emit-clause-ends
+returns-in-Emit-clause-ends g c =
+    rw (c.in-Emit.is, ← c.asked_by-asked-in-Emit.ensures, ← c.as_str.ensures)
+    (c.emit.ensures.ends, (keeps_same _, refl, refl))
+
+pub returns-in-RunPool-clause-pool : goal.returns-in-RunPool-clause-pool
+returns-in-RunPool-clause-pool g c =
+    rw (c.in-RunPool.is, ← c.asked_by-asked-in-RunPool.ensures) c.run_file.ensures.ends

@@ -1,0 +1,57 @@
+-- How a run on the pool of a file ends, as the bodies promise it.
+use Rattle.std.specs.Prelude.{ℕ, ◌≡◌, ◌⊎◌, List, ℤ, Option}
+use Rattle.file_pmem.specs.File.{FileLines}
+use Rattle.pmem.specs.Device.{Device}
+use Rattle.cnvm_script.specs.declared.command.Command.{Command}
+use Rattle.cnvm_session.specs.declared.program.Program.{Program}
+use Rattle.session_run.specs.Held.{HeldAs, NewAs}
+use Rattle.session_run.specs.declared.status.Status.{Status}
+use Rattle.cnvm_compile.specs.declared.asked.Asked.{Asked}
+use Rattle.cnvm_compile.specs.declared.compiling.Compiled.{Compiled}
+use Rattle.cnvm_words.specs.declared.plan.Plan.{Plan}
+use Rattle.cnvm_words.specs.declared.plan.Plan.TheVariants as plan
+use Rattle.cnvm_cli.specs.declared.refused.Refused.{Refused}
+use Rattle.cnvm_cli.specs.PoolMeant.{PoolSide, IsUnrun, RunsFile, TakesFile, MakesPool}
+use Rattle.cnvm_cli.specs.Run.{RefusedAs}
+use Rattle.cnvm_cli.specs.Verdict.{asked_by, TextsGive, TextsRefuse}
+use Rattle.cnvm_cli.specs.World.{Sources}
+
+-- a run on a file with these words, and one on a new pool on this device
+abbrev pub RunsOn : Program → List Command → Status → (before after : PoolSide) → List ℤ → Type 0
+RunsOn program commands result before after words =
+    HeldAs program commands words result after.held.state before.out after.out before.held.device
+    after.held.device before.steps after.steps
+
+abbrev pub RunsNew : Program → List Command → Status → (before after : PoolSide) → Device → Type 0
+RunsNew program commands result before after b =
+    NewAs program commands result after.held.state before.out after.out b after.held.device
+    before.steps after.steps
+
+abbrev pub MissingEnds : Program → List Command → Status → (before after : PoolSide) → Type 0
+MissingEnds program commands result before after =
+    MakesPool (RunsNew program commands result before after) program result before after
+
+abbrev pub ImageEnds : Program → List Command → (image : Option (List ℕ))
+    → (shown : Option FileLines) → Status → (before after : PoolSide) → Type 0
+ImageEnds program commands image shown result before after =
+    TakesFile (RunsOn program commands result before after) program image shown result before after
+
+abbrev pub FoundEnds : Program → List Command → (image : Option (List ℕ)) → Status
+    → (before after : PoolSide) → Type 0
+FoundEnds program commands image result before after =
+    RunsFile (RunsOn program commands result before after)
+    (RunsNew program commands result before after) program image result before after
+
+abbrev pub FileEnds : Asked → Sources → Status → (before after : PoolSide) → Type 0
+FileEnds asked told result before after =
+    ((why : Refused) × TextsRefuse asked told.program told.script why
+    × RefusedAs why result before.out after.out × IsUnrun before after)
+    ⊎ ((compiled : Compiled) × (commands : List Command)
+    × TextsGive asked told.program told.script compiled commands
+    × FoundEnds compiled.program commands told.image result before after)
+
+abbrev pub PlanOnFileEnds : Plan → Sources → Status → (before after : PoolSide) → Type 0
+PlanOnFileEnds (plan.RunPool p s slots records ticks pool) told result before after =
+    FileEnds (asked_by slots records ticks) told result before after
+PlanOnFileEnds _ told result before after =
+    (after.held ≡ before.held) × (after.found ≡ before.found)

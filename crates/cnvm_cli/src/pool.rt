@@ -1,0 +1,195 @@
+//! Runs a script on the pool of a file.
+
+ghost use Rattle.std.specs.Prelude.{◌≡◌, ◌≢◌, ◌<◌, Option, true, false, length, pos};
+ghost use Rattle.std.specs.Prelude.{slice_index_or};
+ghost use Rattle.std.specs.Io.KnownBytes.{IsAtEnd};
+ghost use Rattle.nvm_base.specs.Rose.{Rose};
+ghost use Rattle.file_pmem.specs.Found.{Found};
+ghost use Rattle.cnvm_cli.specs.PoolMeant.{held_by, pool_side, IsKept};
+ghost use Rattle.cnvm_cli.specs.World.{told_by};
+ghost use Rattle.cnvm_cli.specs.inside.PoolEnds.{FileEnds, FoundEnds, MissingEnds, ImageEnds};
+
+use crate::reading::read_words;
+use crate::refused::{Refused, refuse};
+use crate::run::{Job, read_job};
+use crate::traps::look_up;
+use crate::world::World;
+use cnvm_compile::Asked;
+use cnvm_script::Script;
+use cnvm_session::{Program, StartFault, Traps};
+use file_pmem::{FilePmem, Held, LineFile, Made, Pools, Unread, words_in};
+use nvm_base::{Sink, Source, Steps};
+use pmem::Lines;
+use pool_layout::{ImageFault, pool_lines};
+use session_run::{Status, create_held, run_held, run_new};
+use std::alloc::Global;
+use std::sync::ledger::Ledger;
+
+/// Reads the two texts, and runs the script's commands on the pool of the port's file.
+pub(crate) fn run_file<
+    S: Source,
+    T: Source,
+    I: Source,
+    K: Sink,
+    O: Sink,
+    P: Drop,
+    N: Lines + Drop,
+    G: Pools,
+    L: Ledger,
+>(
+    alloc: Global,
+    asked: Asked,
+    world: &mut World<S, T, I, K, O, P>,
+    pools: &mut G,
+    dev: &mut FilePmem<N, G::File>,
+    steps: &mut Steps<L>,
+) -> Status
+    ensures usage { result ≢ Status.Usage }
+    ensures write { result ≡ Status.WriteFault
+        → Rose (K.faults world.old.out) (K.faults world.new.out) }
+    ensures program_end { result ≡ Status.Done → IsAtEnd (S.left world.new.program) }
+    ensures script_end { result ≡ Status.Done → IsAtEnd (T.left world.new.script) }
+    ensures image { world.new.image_out ≡ world.old.image_out }
+    ensures device { world.new.dev ≡ world.old.dev }
+    ensures kept { IsKept (held_by N.memory G.File.content dev.new) }
+    ensures ends { FileEnds asked (told_by S.left T.left I.left world.old) result
+        (pool_side (G.found pools.old) (K.written world.old.out) (held_by N.memory G.File.content
+        dev.old) steps.old) (pool_side (G.found pools.new) (K.written world.new.out)
+        (held_by N.memory G.File.content dev.new) steps.new) }
+{
+    match read_job(alloc, asked, &mut world.program, &mut world.script) {
+        Ok(job) => {
+            let status = run_found(
+                alloc,
+                &job,
+                pools,
+                &mut world.image_in,
+                &mut world.traps,
+                &mut world.out,
+                dev,
+                steps,
+            );
+            look_up(alloc, &job.compiled, &mut world.traps);
+            dev.know();
+            status
+        }
+        Err(refused) => {
+            dev.know();
+            refuse(alloc, refused, &mut world.out)
+        }
+    }
+}
+
+/// Runs the commands on the pool of the file that the name leads to, or on a new one.
+fn run_found<I: Source, K: Sink, N: Lines + Drop, G: Pools, L: Ledger>(
+    alloc: Global,
+    job: &Job,
+    pools: &mut G,
+    image: &mut I,
+    traps: &mut Traps,
+    out: &mut K,
+    dev: &mut FilePmem<N, G::File>,
+    steps: &mut Steps<L>,
+) -> Status
+    ensures usage { result ≢ Status.Usage }
+    ensures write { result ≡ Status.WriteFault → Rose (K.faults out.old) (K.faults out.new) }
+    ensures ends { FoundEnds job.now.compiled.program job.now.script (I.left image.old) result
+        (pool_side (G.found pools.old) (K.written out.old) (held_by N.memory G.File.content dev.old)
+        steps.old) (pool_side (G.found pools.new) (K.written out.new)
+        (held_by N.memory G.File.content dev.new) steps.new) }
+{
+    let program = &job.compiled.program;
+    let script = &job.script;
+    match pools.hold() {
+        Held::Missing => run_missing(alloc, program, script, pools, traps, out, dev, steps),
+        Held::Held(file) => {
+            run_image(alloc, program, script, file, image, traps, out, dev, steps)
+        }
+        Held::Busy => refuse(alloc, Refused::Busy, out),
+        Held::Failed => Status::ReadFault,
+    }
+}
+
+/// Creates a pool, makes a file of its words, and runs the commands on it.
+fn run_missing<K: Sink, N: Lines + Drop, G: Pools, L: Ledger>(
+    alloc: Global,
+    program: &Program,
+    script: &Script,
+    pools: &mut G,
+    traps: &mut Traps,
+    out: &mut K,
+    dev: &mut FilePmem<N, G::File>,
+    steps: &mut Steps<L>,
+) -> Status
+    ensures usage { result ≢ Status.Usage }
+    ensures write { result ≡ Status.WriteFault → Rose (K.faults out.old) (K.faults out.new) }
+    ensures ends { MissingEnds program.now script.now result (pool_side (G.found pools.old)
+        (K.written out.old) (held_by N.memory G.File.content dev.old) steps.old)
+        (pool_side (G.found pools.new) (K.written out.new) (held_by N.memory G.File.content dev.new)
+        steps.new) }
+{
+    let (session, words) = match create_held(alloc, program, dev) {
+        Ok(created) => created,
+        Err(StartFault::Failed) => return Status::DeviceFault,
+        Err(StartFault::NoMemory) => return Status::NoMemory,
+    };
+    match pools.make(words.as_slice()) {
+        Made::Made(file) => run_new(
+            alloc, program, script, session, file, traps, out, dev, steps,
+        ),
+        Made::Busy => refuse(alloc, Refused::Busy, out),
+        Made::Failed => Status::DeviceFault,
+    }
+}
+
+/// Checks the image of a file that is held, and runs the commands on it.
+fn run_image<I: Source, K: Sink, N: Lines + Drop, F: LineFile + Drop, L: Ledger>(
+    alloc: Global,
+    program: &Program,
+    script: &Script,
+    mut file: F,
+    image: &mut I,
+    traps: &mut Traps,
+    out: &mut K,
+    dev: &mut FilePmem<N, F>,
+    steps: &mut Steps<L>,
+) -> Status
+    ensures usage { result ≢ Status.Usage }
+    ensures write { result ≡ Status.WriteFault → Rose (K.faults out.old) (K.faults out.new) }
+    ensures ends { (found : Option Found) → ImageEnds program.now script.now (I.left image.old)
+        (F.content file) result (pool_side found (K.written out.old) (held_by N.memory F.content
+        dev.old) steps.old) (pool_side found (K.written out.new) (held_by N.memory F.content
+        dev.new) steps.new) }
+{
+    let words = match read_words(alloc, image, program) {
+        Ok(words) => words,
+        Err(why) => return refuse(alloc, why, out),
+    };
+    let held = match words_in(alloc, &mut file, pool_lines(program.image.sizes())) {
+        Ok(held) => held,
+        Err(Unread::Failed) => return Status::ReadFault,
+        Err(Unread::NoMemory) => return Status::NoMemory,
+    };
+    let held = held.as_slice();
+    if are_same(held, words.as_slice()) {
+        return run_held(alloc, program, script, held, file, traps, out, dev, steps);
+    }
+    refuse(alloc, other_words(held), out)
+}
+
+/// Tells whether a file's words are those that the image was made with.
+fn are_same(held: &[i64], given: &[i64]) -> bool
+    ensures same { result ≡ true → held.now ≡ given.now }
+    ensures other { result ≡ false → held.now ≢ given.now }
+{
+    held == given
+}
+
+/// The refusal of a pool whose words aren't those of the image: its second word is its version.
+fn other_words(held: &[i64]) -> Refused
+    requires { 1 < length held.now }
+    ensures { result ≡ Refused.Image (ImageFault.Version (slice_index_or held.now 1 (pos 0))
+        (pos 2)) }
+{
+    Refused::Image(ImageFault::Version(held[1], 2))
+}

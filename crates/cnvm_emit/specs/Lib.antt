@@ -1,0 +1,4 @@
+pub mod Emitted
+pub mod Entries
+pub mod Law
+pub mod Name
