@@ -1,0 +1,211 @@
+"""Drawn programs: what tools/check_random compares with gcc, and tools/check_native with native code.
+
+Each program has constants, a root with fields and an array, objects in a list, helper functions, and a
+transaction of two arguments, with every assignment that the language has, `while`, `do` and `for` loops
+with `break` and `continue`, and expressions of all operators. Nothing in it traps: a divisor is from 1 to
+256, an index stays within its array, loops are bounded, and a shift's count is taken modulo 64."""
+
+import random
+
+FIELDS, LENGTH = ["a", "b", "c"], 4
+UPDATES = ["+=", "-=", "*=", "&=", "^=", "|="]
+PLAIN = ["+", "-", "*", "&", "|", "^"]
+TRUTHS = ["<", "<=", ">", ">=", "==", "!=", "&&", "||"]
+# What stands before an expression that gives 0 or 1; gcc gets a cast there.
+TRUTH = "@"
+
+
+class Drawn:
+    """A drawn program."""
+
+    def __init__(self, seed):
+        self.chance, self.locals, self.loops, self.names = random.Random(seed), [], 0, 0
+        self.constants = {"SIZE": LENGTH, "LOW": self.chance.randint(-9, 9), "MORE": None}
+        self.drawn = "\n".join(self.items()) + "\n"
+        self.text = self.drawn.replace(TRUTH, "")
+        self.calls = [(self.number(), self.number()) for _ in range(4)]
+
+    def number(self):
+        return self.chance.choice([0, 1, 2, 3, 7, -1, -2, 255, 1 << 40, -(1 << 62), (1 << 63) - 1,
+                                   self.chance.randint(-1000, 1000)])
+
+    def items(self):
+        yield f"enum {{ SIZE = {LENGTH}, LOW = {self.constants['LOW']}, MORE, LAST = SIZE * 2 - LOW }};"
+        yield "struct Node { int64_t v; struct Node *next; };"
+        yield "struct Root { int64_t a; int64_t b; int64_t c; int64_t t[SIZE]; struct Node *head; };"
+        yield "persistent struct Root root;"
+        self.locals = ["x", "y"]
+        yield "int64_t helper(int64_t x, int64_t y) {"
+        yield from self.block(2, 1)
+        yield f"    return {self.expression(2)};"
+        yield "}"
+        self.locals = ["p", "q"]
+        yield "tx abort int64_t work(int64_t p, int64_t q) {"
+        yield "    if (root.head == NULL) { root.head = pm_new(struct Node); }"
+        yield from self.block(5, 1, calls=True)
+        yield f"    return {self.expression(3)};"
+        yield "}"
+
+    def value(self):
+        kind = self.chance.randrange(7)
+        if kind == 0:
+            return str(self.chance.randint(0, 300))
+        if kind == 1:
+            return self.chance.choice(["SIZE", "LOW", "MORE", "LAST"])
+        if kind == 2:
+            return f"root.{self.chance.choice(FIELDS)}"
+        if kind == 3:
+            return f"root.t[{self.value()} & 3]"
+        return self.chance.choice(self.locals)
+
+    def expression(self, depth):
+        if depth == 0:
+            return self.value()
+        left, right = self.expression(depth - 1), self.expression(depth - 1)
+        kind = self.chance.randrange(8)
+        if kind == 0:
+            return f"({left} {self.chance.choice(['/', '%'])} (({right} & 255) + 1))"
+        if kind == 1:
+            return f"({left} {self.chance.choice(['<<', '>>'])} ({right} & 63))"
+        if kind == 2:
+            return self.chance.choice([f"(-{left})", f"(~{left})", f"{TRUTH}(!{left})"])
+        if kind < 5:
+            return f"{TRUTH}({left} {self.chance.choice(TRUTHS)} {right})"
+        return f"({left} {self.chance.choice(PLAIN)} {right})"
+
+    def target(self):
+        kind = self.chance.randrange(5)
+        if kind == 0:
+            return f"root.{self.chance.choice(FIELDS)}"
+        if kind == 1:
+            return f"root.t[{self.value()} & 3]"
+        return self.chance.choice(self.locals)
+
+    def assignment(self):
+        kind, target = self.chance.randrange(6), self.target()
+        if kind == 0:
+            return f"{target} = {self.expression(2)};"
+        if kind == 1:
+            return f"{target} {self.chance.choice(['/=', '%='])} ({self.expression(1)} & 255) + 1;"
+        if kind == 2:
+            return f"{target} {self.chance.choice(['<<=', '>>='])} {self.expression(1)} & 63;"
+        if kind == 3:
+            return f"{target}{self.chance.choice(['++', '--'])};"
+        return f"{target} {self.chance.choice(UPDATES)} {self.expression(2)};"
+
+    def fresh(self):
+        self.names += 1
+        return f"n{self.names}"
+
+    def block(self, count, depth, calls=False, loop=False):
+        """Statements, each on a line; names that it declares are forgotten after it."""
+        known = len(self.locals)
+        for _ in range(count):
+            yield from ("    " * depth + line for line in self.statement(depth, calls, loop))
+        if depth > 1:
+            del self.locals[known:]
+
+    def statement(self, depth, calls, loop):
+        kind = self.chance.randrange(9)
+        if kind == 0 and depth < 4:
+            name = self.fresh()
+            line = f"int64_t {name} = {self.expression(2)};"
+            self.locals.append(name)
+            return [line]
+        if kind in (1, 2) and depth < 4:
+            return self.loop(depth, calls)
+        if kind == 3 and depth < 4:
+            inner = list(self.block(2, depth + 1, calls, loop))
+            return [f"if ({self.expression(2)}) {{", *(line[4 * depth:] for line in inner), "}"]
+        if kind == 4 and loop:
+            return [f"if ({self.expression(1)}) {{ {self.chance.choice(['break', 'continue'])}; }}"]
+        if kind == 5 and calls:
+            # A local, since C leaves open whether a field is read before or after the call.
+            target = self.chance.choice(self.locals)
+            return [f"{target} {self.chance.choice(UPDATES)} helper({self.value()}, {self.value()});"]
+        if kind == 6 and calls:
+            return [f"root.head->v {self.chance.choice(UPDATES)} {self.expression(1)};",
+                    f"{self.chance.choice(self.locals)} += root.head->v;"]
+        return [self.assignment()]
+
+    def loop(self, depth, calls):
+        count, most, kind = self.fresh(), self.chance.randint(0, 4), self.chance.randrange(3)
+        inner = [line[4 * depth:] for line in self.block(2, depth + 1, calls, loop=True)]
+        # The count is no local of the list, so nothing assigns it, and each round raises it.
+        if kind == 0:
+            return [f"for (int64_t {count} = 0; {count} < {most}; {count}++) {{", *inner, "}"]
+        head = f"int64_t {count} = 0;"
+        if kind == 1:
+            return [head, f"while ({count} < {most}) {{", f"    {count} += 1;", *inner, "}"]
+        return [head, "do {", f"    {count} += 1;", *inner, f"}} while ({count} < {most});"]
+
+
+# Transactions that may trap in each way, that take and free slots, and that have more arguments than a line holds.
+DARED = """tx int64_t push(int64_t value, int64_t n) {
+    for (int64_t i = 0; i < (n & 7); i++) {
+        struct Node *node = pm_new(struct Node);
+        if (node == NULL) { return -1; }
+        node->v = value + i;
+        node->next = root.head;
+        root.head = node;
+    }
+    return n;
+}
+tx abort int64_t drop(int64_t n, int64_t q) {
+    int64_t sum = 0;
+    for (int64_t i = 0; i < (n & 7); i++) {
+        struct Node *node = root.head;
+        sum += node->v;
+        root.head = node->next;
+        pm_free(node);
+        if (q == 7) { sum += node->v; }
+    }
+    return sum / q;
+}
+int64_t deep(int64_t n) {
+    if (n <= 0) { return 0; }
+    return deep(n - 1) + 1;
+}
+tx abort int64_t dare(int64_t p, int64_t q) {
+    root.a += 1;
+    root.t[p & 7] = q;
+    root.b = p / q + p % q;
+    root.c = deep(q & 511);
+    if (root.c > 200) { abort(); }
+    while (p > 1000) { root.b += 1; }
+    return root.b;
+}
+tx int64_t many(int64_t a, int64_t b, int64_t c, int64_t d, int64_t e, int64_t f, int64_t g, int64_t h, int64_t i) {
+    root.a = a - b * c + d - e + f * g - h + i;
+    return root.a;
+}
+tx int64_t none() {
+    return root.a + root.b;
+}
+tx int64_t risk(int64_t p, int64_t q) {
+    root.b += p;
+    root.t[p & 3] = q;
+    return root.t[p] / q;
+}
+"""
+
+
+class Daring(Drawn):
+    """A drawn program that may trap, the sizes of a small pool, and drawn calls."""
+
+    def __init__(self, seed):
+        super().__init__(seed)
+        self.sizes = self.chance.choice([(4, 8, 2000), (16, 4, 100000), (64, 64, 300), (100, 256, 100000)])
+        works = [("work", p, q) for p, q in self.calls]
+        self.calls = [works.pop() if works and self.chance.random() < 0.1 else self.dared() for _ in range(40)]
+        self.calls += [("risk", self.number(), self.number()) for _ in range(4)] + [("none",), ("push", 1, 1)]
+
+    def items(self):
+        yield from super().items()
+        yield from DARED.rstrip("\n").split("\n")
+
+    def dared(self):
+        name = self.chance.choice(["push", "push", "drop", "dare", "dare", "many", "none"])
+        if name == "none":
+            return (name,)
+        return name, *(self.number() for _ in range(9 if name == "many" else 2))

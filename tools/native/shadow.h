@@ -1,0 +1,9 @@
+/* A file that gets each line of a pool once it was flushed and then fenced. So it is at every moment
+   what a loss of power leaves at least: the image of `power old`. */
+#ifndef SHADOW
+#define SHADOW
+
+/* Makes the file OLD a copy of the pool's file, and keeps it so from now on. */
+void shadow_begin(const char *pool, const char *old);
+
+#endif
