@@ -206,8 +206,8 @@ plan_never (plan.Workers p s workers slots records ticks) told before after none
     absurd (workers_never (asked_by slots records ticks) workers told.program told.script before.out
     after.out before.dev after.dev before.steps after.steps none meant.0)
 plan_never (plan.Emit p prefix header slots records ticks) told before after none meant =
-    absurd (emit_never (asked_by slots records ticks) prefix header told.program before.out after.out
-    meant.0)
+    let asked = asked_by slots records ticks in
+    absurd (emit_never asked prefix header told.program before.out after.out meant.0)
 
 pub call_never : (words : Option Plan) (told : Sources) (before after : Outside)
     → IsFaultless before.dev → CallMeant words told status.DeviceFault before after → HasPool words

@@ -198,7 +198,8 @@ file_meant asked told result before after (inr ran) =
 
 -- the plan is known
 plan_on_file : (asked : Plan) (told : Sources) (result : Status) (before after : PoolSide)
-    → PlanOnFileEnds asked told result before after → PlanOnFile (Some asked) told result before after
+    → PlanOnFileEnds asked told result before after
+    → PlanOnFile (Some asked) told result before after
 plan_on_file (plan.Run p s slots records ticks from save) told result before after ends = ends
 plan_on_file (plan.RunPool p s slots records ticks pool) told result before after ends =
     file_meant (asked_by slots records ticks) told result before after ends

@@ -40,8 +40,8 @@ IsRunServed asked told opens =
     HasProgram asked told.program × HasScript script_meaning told.script
     × (opens ≡ true → HasImage asked told.program told.image)
 
--- Everything that the plan reads is there and is accepted. Of a pool's file its own clause says when
--- it is refused.
+-- Everything that the plan reads is there and is accepted. When a pool's file is refused is said by
+-- a clause of its own.
 abbrev pub IsPlanServed : Plan → Sources → Type 0
 IsPlanServed (plan.Run p s slots records ticks from save) told =
     IsRunServed (asked_by slots records ticks) told (is_some from)

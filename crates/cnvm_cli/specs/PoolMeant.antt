@@ -129,8 +129,8 @@ IsSilent result before after =
     × Keeps before.out after.out × (after.steps ≡ before.steps)
 
 -- No file has the name: a pool is created in memory, and a file is made of its words. Without
--- memory, or where the port fails, nothing is run; nor where the name is taken meanwhile. `new` says
--- what is run on the new pool.
+-- memory, or where the port fails, nothing is run; nor where the name is taken meanwhile. What is
+-- run on the new pool is `new`.
 abbrev pub MakesPool : (new : Device → Type 0) → Program → Status → (before after : PoolSide)
     → Type 0
 MakesPool new program result before after =

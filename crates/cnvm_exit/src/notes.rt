@@ -37,8 +37,8 @@ pub(crate) struct Named<'a> {
     pub image_out: &'a str,
 }
 
-/// Tells how a run ended; `pool` is why a pool's file couldn't be opened or made. Where there is no memory for the message a short one is written; where
-/// the sink fails none is.
+/// Tells how a run ended; `pool` is why a pool's file couldn't be opened or made. Where there is no
+/// memory for the message a short one is written; where the sink fails none is.
 pub(crate) fn tell_end<R: Files + Print + AllocGlobal, P: Drop, N: Sink>(
     alloc: Global,
     words: &[String],

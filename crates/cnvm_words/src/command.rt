@@ -5,8 +5,8 @@ ghost use Rattle.std.specs.Prelude.{◌≡◌, false, IfOk};
 ghost use Rattle.clap.specs.declared.builder.command.Command.TheViews.{out-Command as fields_of};
 ghost use Rattle.clap.specs.Words.{app_of, rule_of};
 ghost use Rattle.cnvm_words.specs.App.{option_rule, flag_rule, place_rule, bare_app, sized, filed};
-ghost use Rattle.cnvm_words.specs.App.{run_app, list_app, storm_app, why_app, workers_app, emit_app};
-ghost use Rattle.cnvm_words.specs.App.{with_others, cnvm_app};
+ghost use Rattle.cnvm_words.specs.App.{run_app, list_app, storm_app, why_app, workers_app};
+ghost use Rattle.cnvm_words.specs.App.{emit_app, with_others, cnvm_app};
 
 use clap::{Arg, ArgAction, Command};
 use std::alloc::{AllocError, Global};

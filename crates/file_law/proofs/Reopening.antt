@@ -81,7 +81,8 @@ module _ (program : Program) (super : Words) (d e : Device) (s : SourceState)
         owes.left;
   }
 
-  carried : (m : Mode) (st : Standing) → HoldsAs st program super m d s → HeldAs st program super e s
+  carried : (m : Mode) (st : Standing) → HoldsAs st program super m d s
+      → HeldAs st program super e s
   carried m Ready holds = carried_none (resting_owes program super d s holds.1)
   carried m (Down None) holds = carried_none holds.1
   carried m (Down (Some owed)) holds = carried_owed owed (rolls_back_of program owed.tx) holds.1

@@ -1,4 +1,4 @@
--- A process is killed in a session, or the power is lost, and the next process opens what is left of
+-- A process is killed in a session, or the power is lost. The next process opens what is left of
 -- the file.
 use Rattle.std.specs.Prelude.{ℕ, ◌*◌, ◌≡◌, List, length, ℤ}
 use Rattle.cache_model.specs.Cache.{Words}
@@ -26,8 +26,8 @@ pub record IsLeft (program : Program) (x : Moment) (f : FileLines) (words : List
   pub left : MayLeave f x.device.lines (image_words words)
   pub whole : length words ≡ 8 * x.device.lines
 
--- If the next process opens such words, its first answer is one that the source gives to a power cut
--- of the session which left them, and its pool holds what the source then knows.
+-- If the next process opens such words, its first answer is one that the source gives to a power
+-- cut of the session which left them, and its pool holds what the source then knows.
 abbrev pub ReopenLaw : Type 0
 ReopenLaw =
     (program : Program) (super : Words) (x : Moment) (f : FileLines) (words : List ℤ)

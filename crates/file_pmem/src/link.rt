@@ -2,7 +2,8 @@
 
 ghost use Rattle.std.specs.Prelude.{◌≡◌, ◌≢◌, ◌⊎◌, None};
 ghost use Rattle.file_pmem.specs.File.{StaysFile, WritesFile, SyncsFile};
-ghost use Rattle.file_pmem.specs.Mirror.{shown, IsSynced, is_mirrored, has_refused, woken, given_up};
+ghost use Rattle.file_pmem.specs.Mirror.{shown, IsSynced, is_mirrored, has_refused};
+ghost use Rattle.file_pmem.specs.Mirror.{woken, given_up};
 ghost use Rattle.file_pmem.specs.declared.link.MirrorState.TheVariants.{Asleep, Awake};
 
 use crate::file::{FileAnswer, LineFile};

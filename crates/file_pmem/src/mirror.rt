@@ -1,7 +1,7 @@
 //! A device in memory that is mirrored in a file: a flush writes the line, and a fence syncs.
 
-ghost use Rattle.std.specs.Prelude.{◌≡◌, ◌≢◌, ◌⊎◌, ◌*◌, ◌+◌, ◌<◌, ◌≤◌, ◌^◌, true, false, Some, None};
-ghost use Rattle.std.specs.Prelude.{IsSome, IsNone, IfSome, OnOk, OnErr, IfErr};
+ghost use Rattle.std.specs.Prelude.{◌≡◌, ◌≢◌, ◌⊎◌, ◌*◌, ◌+◌, ◌<◌, ◌≤◌, ◌^◌, true, false};
+ghost use Rattle.std.specs.Prelude.{Some, None, IsSome, IsNone, IfSome, OnOk, OnErr, IfErr};
 ghost use Rattle.cache_model.specs.Cache.{blank, view, Memory};
 ghost use Rattle.cache_model.specs.Event.{Store, Flush, Fence};
 ghost use Rattle.cache_model.specs.Collapse.{bad, Rises};

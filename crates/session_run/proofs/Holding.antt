@@ -1,7 +1,7 @@
 -- Commands are run on a pool that is held by a file.
 use Rattle.std.proofs.Common.{◌≡◌, ℕ, zero, suc, ◌+◌, ◌*◌, ◌<◌, List, [], ◌∷◌, ◌++◌, Option, length}
-use Rattle.std.proofs.Common.{drop, get_or, slice_index_or, Result, Ok, Err, OnOk, IfErr, ℤ, pos, inl}
-use Rattle.std.proofs.Common.{inr, refl, ap, sym, subst, ◌∙◌, arith}
+use Rattle.std.proofs.Common.{drop, get_or, slice_index_or, Result, Ok, Err, OnOk, IfErr, ℤ, pos}
+use Rattle.std.proofs.Common.{inl, inr, refl, ap, sym, subst, ◌∙◌, arith}
 use Rattle.std.specs.Io.KnownBytes.{Appends}
 use Rattle.cache_model.specs.Cache.{Words, Cache, Memory, blank, view}
 use Rattle.cache_model.specs.Play.{play}

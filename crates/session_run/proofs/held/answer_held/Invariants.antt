@@ -10,23 +10,26 @@ use Rattle.session_run.proofs.held.answer_held.Given as goal
 -- if the commands that are left lead on from here, then all of them lead on from the start
 abbrev pub invariant-loop-given : goal.invariant-loop-given
 invariant-loop-given g l =
-    let written = g.K.Sink.written in record {
-      lines : (file_device g.N.Lines.memory l.dev).lines ≡ pool_lines l.program.image.parts.sizes;
+    let written = g.K.Sink.written in
+    let before = file_device g.N.Lines.memory l.initial.dev in
+    let now = file_device g.N.Lines.memory l.dev in
+    let left = drop l.given-index l.commands in record {
+      lines : now.lines ≡ pool_lines l.program.image.parts.sizes;
       awake : l.dev.link.state ≡ Awake;
       count : g.K.Sink.faults l.initial.out ≤ g.K.Sink.faults l.out;
       all : (d : Device) (w : Option (List ℕ)) (k : ℕ)
-          → RunsAndWrites l.program (drop l.given-index l.commands) l.session (file_device g.N.Lines.memory l.dev)
+          → RunsAndWrites l.program left l.session now
           (written l.out) l.steps d w k
-          → RunsAndWrites l.program l.commands l.initial.session (file_device g.N.Lines.memory l.initial.dev)
+          → RunsAndWrites l.program l.commands l.initial.session before
           (written l.initial.out) l.initial.steps d w k;
       part : (d : Device) (w : Option (List ℕ)) (k : ℕ)
-          → RunsPart l.program (drop l.given-index l.commands) l.session (file_device g.N.Lines.memory l.dev)
+          → RunsPart l.program left l.session now
           (written l.out) l.steps d w k
-          → RunsPart l.program l.commands l.initial.session (file_device g.N.Lines.memory l.initial.dev)
+          → RunsPart l.program l.commands l.initial.session before
           (written l.initial.out) l.initial.steps d w k;
       some : (d : Device) (w : Option (List ℕ)) (k : ℕ)
-          → RunsSome l.program (drop l.given-index l.commands) l.session (file_device g.N.Lines.memory l.dev)
+          → RunsSome l.program left l.session now
           (written l.out) l.steps d w k
-          → RunsSome l.program l.commands l.initial.session (file_device g.N.Lines.memory l.initial.dev)
+          → RunsSome l.program l.commands l.initial.session before
           (written l.initial.out) l.initial.steps d w k;
     }
