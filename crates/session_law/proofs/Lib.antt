@@ -33,3 +33,4 @@ pub mod Running
 pub mod Chains
 pub mod Unchanged
 pub mod Bounded
+pub mod Ending

@@ -12,6 +12,7 @@ ghost use Rattle.session_law.specs.Law.{WholeLaw, UnchangedLaw, BoundLaw, Script
 ghost use Rattle.session_law.specs.Law.{FullLaw, RecoveryPhaseLaw};
 ghost use Rattle.session_law.specs.Law.{LedLaw, FullLogLaw, MarkedExactLaw, HeldRunLaw};
 ghost use Rattle.session_law.specs.Law.{RollbackLaw};
+ghost use Rattle.session_law.specs.Ends.{EndsLaw};
 
 /// Each command of a session is answered as the source says. The function does nothing.
 pub fn law()
@@ -37,4 +38,5 @@ pub fn law()
     ensures marked_exact { MarkedExactLaw }
     ensures held_run { HeldRunLaw }
     ensures rollback { RollbackLaw }
+    ensures ends { EndsLaw }
 {}

@@ -16,6 +16,7 @@ use Rattle.session_law.proofs.FullLogs.{full_log}
 use Rattle.session_law.proofs.RolledBack.{call_rolled_back, power_rolled_back}
 use Rattle.session_law.proofs.KeepingChains.{chain_rolled_back}
 use Rattle.session_law.proofs.MarkedExact.{marked_exact, marked_run_held}
+use Rattle.session_law.proofs.Ending.{uninterrupted, each_recovery_ends}
 use Rattle.session_law.proofs.law.Goals as goal
 
 pub returns-clause-session : goal.returns-clause-session
@@ -83,3 +84,6 @@ returns-clause-marked_exact c = marked_exact
 
 pub returns-clause-held_run : goal.returns-clause-held_run
 returns-clause-held_run c = marked_run_held
+
+pub returns-clause-ends : goal.returns-clause-ends
+returns-clause-ends c = (uninterrupted, each_recovery_ends)
