@@ -1,6 +1,7 @@
-/* The hash map of map.c on the protocol of cnvm, written by hand: the same events on the same simulated
-   lines, without code of a machine between. It reads the `call` lines of a script and writes the answers
-   of `cnvm run`, so its time is one that no interpreter of the protocol comes below. */
+/* The hash map of map.c on the protocol of cnvm, written by hand: the same events on the same
+   simulated lines, without code of a machine between. It reads the `call` lines of a script and
+   writes the answers of `cnvm run`, so its time is one that no interpreter of the protocol comes
+   below. */
 #include <stdint.h>
 #include <stdio.h>
 #include <stdlib.h>
@@ -170,7 +171,9 @@ int main(int argc, char **argv) {
         seal(function, args, given);
         logged = count();
         dirties = 0;
-        int64_t value = function == 1 ? put(args[0], args[1]) : function == 2 ? get(args[0]) : del(args[0]);
+        int64_t value = function == 1   ? put(args[0], args[1])
+                        : function == 2 ? get(args[0])
+                                        : del(args[0]);
         for (int i = 0; i < dirties; i++) flush(dirty[i]);
         fence();
         store(LAST, value);

@@ -1,8 +1,8 @@
-/* The hash map of map.c on libpmemobj. It makes a pool of the given size in the given file, reads the
-   `call` lines of a script from its input, runs each as one transaction, and writes each value on a line.
-   An update, an insertion and a removal are transactions of the library, with an undo record for each
-   word of the pool that they overwrite; `get` writes nothing. A line `cut` closes the pool and opens it
-   again, which runs the library's recovery. */
+/* The hash map of map.c on libpmemobj. It makes a pool of the given size in the given file, reads
+   the `call` lines of a script from its input, runs each as one transaction, and writes each value
+   on a line. An update, an insertion and a removal are transactions of the library, with an undo
+   record for each word of the pool that they overwrite; `get` writes nothing. A line `cut` closes
+   the pool and opens it again, which runs the library's recovery. */
 #include <libpmemobj.h>
 #include <stdint.h>
 #include <stdio.h>
@@ -97,7 +97,9 @@ int main(int count, char **words) {
             if (!pool) fail(words[1]);
             find_root();
         } else if (sscanf(line, "call %15s %lld %lld", name, &k, &v) >= 2) {
-            int64_t value = !strcmp(name, "put") ? put(k, v) : !strcmp(name, "get") ? get(k) : del(k);
+            int64_t value = !strcmp(name, "put")   ? put(k, v)
+                            : !strcmp(name, "get") ? get(k)
+                                                   : del(k);
             printf("= %lld\n", (long long)value);
         }
     }

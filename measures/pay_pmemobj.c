@@ -1,7 +1,7 @@
-/* The payments of pay.c on libpmemobj. It makes a pool of the given size in the given file, reads the
-   `call` lines of a script from its input, runs each as one transaction, and writes each value, or
-   `aborted`, on a line. A `pay` moves first and tests last: where the giver has too little, the library's
-   transaction is aborted, which puts its undo records back. A `give` tests first. */
+/* The payments of pay.c on libpmemobj. It makes a pool of the given size in the given file, reads
+   the `call` lines of a script from its input, runs each as one transaction, and writes each value,
+   or `aborted`, on a line. A `pay` moves first and tests last: where the giver has too little, the
+   library's transaction is aborted, which puts its undo records back. A `give` tests first. */
 #include <errno.h>
 #include <libpmemobj.h>
 #include <stdint.h>
@@ -21,7 +21,9 @@ static void fail(const char *what) {
     exit(1);
 }
 
-static void keep(int64_t *words, size_t count) { pmemobj_tx_add_range_direct(words, count * sizeof *words); }
+static void keep(int64_t *words, size_t count) {
+    pmemobj_tx_add_range_direct(words, count * sizeof *words);
+}
 
 static int64_t move(int64_t from, int64_t to, int64_t amount) {
     keep(&bank->balance[from], 1);

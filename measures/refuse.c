@@ -1,5 +1,6 @@
 /* An allocator that refuses one request, the one numbered REFUSE (from 1), and tells at the end how
-   many there were, in the file that REFUSE_COUNT names. Build: cc -shared -fPIC -o refuse.so refuse.c */
+   many there were, in the file that REFUSE_COUNT names. Build: cc -shared -fPIC -o refuse.so
+   refuse.c */
 #define _GNU_SOURCE
 #include <dlfcn.h>
 #include <errno.h>

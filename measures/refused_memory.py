@@ -5,8 +5,9 @@
 
 PROGRAM is the built program, crates/cnvm/out/cnvm where none is named. Wanted: cc, and a C library
 with __libc_malloc. A run that meets the refused request must end with status 1, or 5 or 6 where a
-file found no memory, with a first part of its lines; or it answers `no memory`, and then power brings
-back a pool in which the call is whole or isn't there. Anything else, a signal included, is printed.
+file found no memory, with a first part of its lines; or it answers `no memory`, and then power
+brings back a pool in which the call is whole or isn't there. Anything else, a signal included, is
+printed.
 """
 import os, subprocess, sys, tempfile
 
@@ -23,7 +24,8 @@ ANSWERS |= {f"stopped {phase}\n" for phase in ("unsealed", "sealing", "sealed")}
 RUNS = {
     "call": ("call inc 5\n" + AFTER, [], "= 5 log 1\nrecovered none\nroot n=5\nlast 1 5\n"),
     "cut": ("stop 13\ncall inc 5\npower new\nshow\n" + AFTER, [],
-            "stopped sealed\nrecovered redone 5 log 1\nroot n=5\nrecovered none\nroot n=5\nlast 1 5\n"),
+            "stopped sealed\nrecovered redone 5 log 1\nroot n=5\nrecovered none\nroot n=5\n"
+            "last 1 5\n"),
     "save": ("call inc 5\n" + AFTER, ["--slots", "1", "--log", "1", "--save", "Z"],
              "= 5 log 1\nrecovered none\nroot n=5\nlast 1 5\n"),
 }
@@ -35,7 +37,8 @@ def run(room, refuse, words, number):
     if os.path.exists(told):
         os.remove(told)
     environment = dict(os.environ, LD_PRELOAD=refuse, REFUSE=str(number), REFUSE_COUNT=told)
-    done = subprocess.run([PROGRAM] + words, cwd=room, env=environment, capture_output=True, timeout=60)
+    done = subprocess.run([PROGRAM] + words, cwd=room, env=environment, capture_output=True,
+                          timeout=60)
     count = int(open(told).read()) if os.path.exists(told) else None
     return done.returncode, done.stdout.decode(), count
 
@@ -58,7 +61,8 @@ def main():
     wrong = 0
     with tempfile.TemporaryDirectory() as room:
         refuse = room + "/refuse.so"
-        subprocess.run(["cc", "-O1", "-shared", "-fPIC", "-o", refuse, HERE + "/refuse.c"], check=True)
+        command = ["cc", "-O1", "-shared", "-fPIC", "-o", refuse, HERE + "/refuse.c"]
+        subprocess.run(command, check=True)
         for name, (script, more, whole) in RUNS.items():
             open(room + "/script", "w").write(script)
             words = ["run", COUNTER, "script"] + more

@@ -1,5 +1,5 @@
-"""What the tools that tell of the sources read: the floor plan, the definitions of specs/, the public calls and the
-labels of their clauses.
+"""What the tools that tell of the sources read: the floor plan, the definitions of specs/, the
+public calls and the labels of their clauses.
 
 A definition is a name of a file in specs/, or a type that the Rust code declares."""
 
@@ -12,7 +12,8 @@ NAME = re.compile(r"[^\W\d][\w'!?-]*(?:\.[^\W\d][\w'!?-]*)*")
 HEAD = re.compile(r"^\s*(?:unfoldable )?(?:abbrev )?(?:pub )?(?:(?:record|data) )?"
                   r"(?!module\b)([^\W\d][\w'-]*)")
 KEYWORDS = {"abbrev", "pub", "record", "data", "use", "open", "where", "let", "in", "if", "then",
-            "else", "case", "of", "mutual", "unfoldable", "type", "infix", "infixl", "infixr", "mod"}
+            "else", "case", "of", "mutual", "unfoldable", "type", "infix", "infixl", "infixr",
+            "mod"}
 CLAUSE = re.compile(r"^\s*(requires|ensures)\*? ?(\w+)? ?(?=\{)", re.M)
 
 
@@ -24,7 +25,8 @@ def text_of(path):
 def plan():
     """Each crate of the floor plan with the crates that it uses, the lowest first."""
     lines = text_of(os.path.join(TOP, "crates.txt")).split("\n")
-    return {name: below.split("#")[0].split() for name, colon, below in (it.partition(":") for it in lines)
+    parts = (it.partition(":") for it in lines)
+    return {name: below.split("#")[0].split() for name, colon, below in parts
             if colon and not name.startswith("#")}
 
 
@@ -42,7 +44,8 @@ def first_words(crate):
 
 def imports_of(line, crate):
     """The names that a `use` line brings, each with the module and the name there."""
-    match = re.match(r"\s*(?:ghost )?(?:pub )?use ([\w.+']+?)(?:\.\{(.*)\})?(?: as (\w+))?;?\s*$", line)
+    match = re.match(r"\s*(?:ghost )?(?:pub )?use ([\w.+']+?)(?:\.\{(.*)\})?(?: as (\w+))?;?\s*$",
+                     line)
     if not match or not match[1].startswith("Rattle."):
         return {}
     module, listed, alias = match.groups()
@@ -154,7 +157,7 @@ class Tree:
                         self.files[f"Rattle.{crate}.specs.{inner}"] = File(crate, path)
 
     def modules(self, crate):
-        """The files of a crate's specs/, but for specs/inside/, each after those that it imports."""
+        """The files of a crate's specs/, but for specs/inside/, each after those it imports."""
         head = f"Rattle.{crate}.specs."
         library = os.path.join(CRATES, crate, "specs", "Lib.antt")
         text = text_of(library) if os.path.isfile(library) else ""
@@ -188,7 +191,8 @@ class Tree:
         if match and match[1] in self.crates:
             return f"Rattle.{match[1]}.specs.declared", match[2].removesuffix(".TheVariants")
         # what stands in a crate of the toolchain
-        if match or (module or "").startswith("Rattle.") and module.split(".")[1] not in self.crates:
+        is_other = (module or "").startswith("Rattle.")
+        if match or is_other and module.split(".")[1] not in self.crates:
             return module.removesuffix(".TheVariants"), name
         return None
 
@@ -246,15 +250,17 @@ class Tree:
 
     def comment(self, key):
         module, name = key
-        return self.files[module].comments.get(name, "") if module in self.files else "a type of the code"
+        if module not in self.files:
+            return "a type of the code"
+        return self.files[module].comments.get(name, "")
 
     def type_lines(self, key):
         """The lines of a declared struct or enum."""
         path = os.path.join(CRATES, self.place(key))
         if not os.path.isfile(path):
             return 0
-        match = re.search(rf"^\s*pub (?:struct|enum|trait) {key[1].rpartition('.')[2]}\b.*?(?:;|^\s*}})",
-                          text_of(path), re.S | re.M)
+        head = rf"^\s*pub (?:struct|enum|trait) {key[1].rpartition('.')[2]}\b"
+        match = re.search(head + r".*?(?:;|^\s*})", text_of(path), re.S | re.M)
         return match[0].count("\n") + 1 if match else 0
 
     def fields(self):
@@ -285,14 +291,15 @@ def files_of(crate):
 
 
 class Call:
-    """A function of the code: its name with its type, whether it is public, and its clauses in order."""
+    """A function of the code: its name with its type, whether it is public, and its clauses."""
 
     def __init__(self, name, is_public, place):
         self.name, self.is_public, self.place, self.clauses = name, is_public, place, []
 
 
 def calls_of(crate):
-    """The functions of a crate. Public are those with `pub`, and those of a trait and of an `impl` of one."""
+    """The functions of a crate. Public are those with `pub`, and those of a trait and of an `impl`
+    of one."""
     found = []
     for path, text in files_of(crate):
         owner, of_trait, lines = None, False, text.split("\n")
@@ -310,12 +317,14 @@ def calls_of(crate):
                 is_public = bool(function[1]) or of_trait and line.startswith(" ")
                 found.append(Call(name, is_public, f"{os.path.relpath(path, CRATES)}:{number + 1}"))
             if clause and found:
-                found[-1].clauses.append((clause[1], clause[2], braced("\n".join(lines[number:])[clause.end():])))
+                rest = "\n".join(lines[number:])[clause.end():]
+                found[-1].clauses.append((clause[1], clause[2], braced(rest)))
     return found
 
 
 def exported(crate):
-    """The names that a library shows: of its lib.rt, of what it brings out, and of its public modules."""
+    """The names that a library shows: of its lib.rt, of what it brings out, and of its public
+    modules."""
     path = os.path.join(CRATES, crate, "src", "lib.rt")
     if not os.path.isfile(path):
         return set()
@@ -326,5 +335,6 @@ def exported(crate):
     for module in re.findall(r"^pub mod (\w+);", text, re.M):
         inner = os.path.join(CRATES, crate, "src", f"{module}.rt")
         if os.path.isfile(inner):
-            names.update(re.findall(r"^pub (?:const )?(?:fn|struct|enum|trait) (\w+)", text_of(inner), re.M))
+            head = r"^pub (?:const )?(?:fn|struct|enum|trait) (\w+)"
+            names.update(re.findall(head, text_of(inner), re.M))
     return names

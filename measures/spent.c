@@ -1,5 +1,6 @@
-/* Runs a command and writes into a file what it took: seconds of user, system and wall time, and the
-   greatest resident size in kilobytes. It is small, since a process begins with the size of its maker. */
+/* Runs a command and writes into a file what it took: seconds of user, system and wall time, and
+   the greatest resident size in kilobytes. It is small, since a process begins with the size of its
+   maker. */
 #include <stdio.h>
 #include <sys/resource.h>
 #include <sys/wait.h>

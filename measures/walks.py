@@ -1,9 +1,9 @@
 """How long the walks of a certificate are in the shapes `chain` and `chain_of_loops`.
 
-`python3 walks.py chain 1001` writes the places of the code, and for each of the two walks to the one
-logged store: the spots that a search back from it goes through, the steps of its shortest walk, and
-the bytes of these steps in the text. It is a model: it follows the table of facts of `ir`, and runs
-nothing of the program."""
+`python3 walks.py chain 1001` writes the places of the code, and for each of the two walks to the
+one logged store: the spots that a search back from it goes through, the steps of its shortest walk,
+and the bytes of these steps in the text. It is a model: it follows the table of facts of `ir`, and
+runs nothing of the program."""
 
 import sys
 from collections import deque

@@ -1,9 +1,11 @@
-"""Drawn programs: what tools/check_random compares with gcc, and tools/check_native with native code.
+"""Drawn programs: what tools/check_random compares with gcc, and tools/check_native with native
+code.
 
-Each program has constants, a root with fields and an array, objects in a list, helper functions, and a
-transaction of two arguments, with every assignment that the language has, `while`, `do` and `for` loops
-with `break` and `continue`, and expressions of all operators. Nothing in it traps: a divisor is from 1 to
-256, an index stays within its array, loops are bounded, and a shift's count is taken modulo 64."""
+Each program has constants, a root with fields and an array, objects in a list, helper functions,
+and a transaction of two arguments, with every assignment that the language has, `while`, `do` and
+`for` loops with `break` and `continue`, and expressions of all operators. Nothing in it traps: a
+divisor is from 1 to 256, an index stays within its array, loops are bounded, and a shift's count is
+taken modulo 64."""
 
 import random
 
@@ -30,9 +32,11 @@ class Drawn:
                                    self.chance.randint(-1000, 1000)])
 
     def items(self):
-        yield f"enum {{ SIZE = {LENGTH}, LOW = {self.constants['LOW']}, MORE, LAST = SIZE * 2 - LOW }};"
+        low = self.constants["LOW"]
+        yield f"enum {{ SIZE = {LENGTH}, LOW = {low}, MORE, LAST = SIZE * 2 - LOW }};"
         yield "struct Node { int64_t v; struct Node *next; };"
-        yield "struct Root { int64_t a; int64_t b; int64_t c; int64_t t[SIZE]; struct Node *head; };"
+        yield ("struct Root { int64_t a; int64_t b; int64_t c; int64_t t[SIZE]; "
+               "struct Node *head; };")
         yield "persistent struct Root root;"
         self.locals = ["x", "y"]
         yield "int64_t helper(int64_t x, int64_t y) {"
@@ -122,7 +126,8 @@ class Drawn:
         if kind == 5 and calls:
             # A local, since C leaves open whether a field is read before or after the call.
             target = self.chance.choice(self.locals)
-            return [f"{target} {self.chance.choice(UPDATES)} helper({self.value()}, {self.value()});"]
+            update = self.chance.choice(UPDATES)
+            return [f"{target} {update} helper({self.value()}, {self.value()});"]
         if kind == 6 and calls:
             return [f"root.head->v {self.chance.choice(UPDATES)} {self.expression(1)};",
                     f"{self.chance.choice(self.locals)} += root.head->v;"]
@@ -140,7 +145,8 @@ class Drawn:
         return [head, "do {", f"    {count} += 1;", *inner, f"}} while ({count} < {most});"]
 
 
-# Transactions that may trap in each way, that take and free slots, and that have more arguments than a line holds.
+# Transactions that may trap in each way, that take and free slots, and that have more arguments
+# than a line holds.
 DARED = """tx int64_t push(int64_t value, int64_t n) {
     for (int64_t i = 0; i < (n & 7); i++) {
         struct Node *node = pm_new(struct Node);
@@ -175,7 +181,8 @@ tx abort int64_t dare(int64_t p, int64_t q) {
     while (p > 1000) { root.b += 1; }
     return root.b;
 }
-tx int64_t many(int64_t a, int64_t b, int64_t c, int64_t d, int64_t e, int64_t f, int64_t g, int64_t h, int64_t i) {
+tx int64_t many(int64_t a, int64_t b, int64_t c, int64_t d, int64_t e, int64_t f, int64_t g,
+                int64_t h, int64_t i) {
     root.a = a - b * c + d - e + f * g - h + i;
     return root.a;
 }
@@ -195,10 +202,13 @@ class Daring(Drawn):
 
     def __init__(self, seed):
         super().__init__(seed)
-        self.sizes = self.chance.choice([(4, 8, 2000), (16, 4, 100000), (64, 64, 300), (100, 256, 100000)])
+        sizes = [(4, 8, 2000), (16, 4, 100000), (64, 64, 300), (100, 256, 100000)]
+        self.sizes = self.chance.choice(sizes)
         works = [("work", p, q) for p, q in self.calls]
-        self.calls = [works.pop() if works and self.chance.random() < 0.1 else self.dared() for _ in range(40)]
-        self.calls += [("risk", self.number(), self.number()) for _ in range(4)] + [("none",), ("push", 1, 1)]
+        self.calls = [works.pop() if works and self.chance.random() < 0.1 else self.dared()
+                      for _ in range(40)]
+        self.calls += [("risk", self.number(), self.number()) for _ in range(4)]
+        self.calls += [("none",), ("push", 1, 1)]
 
     def items(self):
         yield from super().items()

@@ -4,7 +4,8 @@ import html
 import json
 import os
 
-KINDS = {"before": "the pool from before the call", "after": "the pool after the call", "other": "another pool"}
+KINDS = {"before": "the pool from before the call", "after": "the pool after the call",
+         "other": "another pool"}
 PHASES = {"unsealed": "no version of the seal's line has the seal: the call never was",
           "sealing": "some versions have the seal: what is left decides",
           "sealed": "all versions have the seal: the call is owed or done"}
@@ -12,40 +13,56 @@ PHASES = {"unsealed": "no version of the seal's line has the seal: the call neve
 STYLE = """
 :root { --before: #b7d3ec; --after: #b5dcae; --other: #ef6a6a; --line: #dcdcd6; --grey: #6b6b66 }
 * { box-sizing: border-box }
-body { font: 16px/1.5 system-ui, "Segoe UI", "DejaVu Sans", sans-serif; color: #222; background: #fbfbf9;
-       margin: 0 auto; max-width: 1180px; padding: 28px 24px 60px }
+body { font: 16px/1.5 system-ui, "Segoe UI", "DejaVu Sans", sans-serif; color: #222;
+       background: #fbfbf9; margin: 0 auto; max-width: 1180px; padding: 28px 24px 60px }
 h1 { font-size: 26px; line-height: 1.2; margin: 0 0 4px } h2 { font-size: 18px; margin: 34px 0 8px }
-code, pre, .cell, table.cut { font-family: ui-monospace, "DejaVu Sans Mono", Menlo, Consolas, monospace }
+code, pre, .cell, table.cut {
+  font-family: ui-monospace, "DejaVu Sans Mono", Menlo, Consolas, monospace }
 code { font-size: 14px; background: #efefe9; padding: 1px 4px; border-radius: 3px }
-h1 code { font-size: 24px } p { margin: 6px 0; max-width: 78ch } .small { color: var(--grey); font-size: 14px }
-.before { background: var(--before) } .after { background: var(--after) } .other { background: var(--other) }
+h1 code { font-size: 24px } p { margin: 6px 0; max-width: 78ch }
+.small { color: var(--grey); font-size: 14px }
+.before { background: var(--before) } .after { background: var(--after) }
+.other { background: var(--other) }
 .unsealed { background: #e4e4de } .sealing { background: #f5d796 } .sealed { background: #d6c6ea }
 .seal { background: #ecece6 } .run { background: #dfe8ec } .retire, .mark { background: #ecece6 }
 .scroll { overflow-x: auto; padding-bottom: 6px }
 .grid { display: grid; gap: 2px; align-items: stretch; min-width: max-content }
-.name { font-size: 14px; color: var(--grey); padding-right: 10px; text-align: right; align-self: center; white-space: nowrap }
+.name { font-size: 14px; color: var(--grey); padding-right: 10px; text-align: right;
+        align-self: center; white-space: nowrap }
 .number { font-size: 12px; color: var(--grey); text-align: center }
-.span { font-size: 13px; text-align: center; overflow: hidden; white-space: nowrap; border-radius: 3px; padding: 1px 0 }
-.cell { min-width: 18px; height: 26px; font-size: 13px; display: flex; align-items: center; justify-content: center;
-        cursor: pointer; border-radius: 3px; border: 2px solid transparent; color: #222 }
-.cell:hover, .cell.same { border-color: #8888 } .cell.chosen { border-color: #111; font-weight: bold }
+.span { font-size: 13px; text-align: center; overflow: hidden; white-space: nowrap;
+        border-radius: 3px; padding: 1px 0 }
+.cell { min-width: 18px; height: 26px; font-size: 13px; display: flex; align-items: center;
+        justify-content: center; cursor: pointer; border-radius: 3px;
+        border: 2px solid transparent; color: #222 }
+.cell:hover, .cell.same { border-color: #8888 }
+.cell.chosen { border-color: #111; font-weight: bold }
 .small-cell { height: 12px; min-width: 12px; font-size: 0; border-width: 1px }
-.two { display: grid; grid-template-columns: minmax(0, 1fr) minmax(0, 1fr); gap: 28px; align-items: start }
+.two { display: grid; grid-template-columns: minmax(0, 1fr) minmax(0, 1fr); gap: 28px;
+       align-items: start }
 @media (max-width: 860px) { .two { grid-template-columns: minmax(0, 1fr) } }
-.card { background: #fff; border: 1px solid var(--line); border-radius: 6px; padding: 12px 14px; margin: 8px 0 }
-.card h3 { margin: 0 0 4px; font-size: 15px; font-weight: 600 } .card h3 b { padding: 0 7px; border-radius: 3px; margin-right: 6px }
-table.cut { border-collapse: collapse; font-size: 14px; width: 100% } table.cut td { padding: 1px 12px 1px 0; vertical-align: top }
+.card { background: #fff; border: 1px solid var(--line); border-radius: 6px; padding: 12px 14px;
+        margin: 8px 0 }
+.card h3 { margin: 0 0 4px; font-size: 15px; font-weight: 600 }
+.card h3 b { padding: 0 7px; border-radius: 3px; margin-right: 6px }
+table.cut { border-collapse: collapse; font-size: 14px; width: 100% }
+table.cut td { padding: 1px 12px 1px 0; vertical-align: top }
 table.cut td + td { color: var(--grey) } table.cut tr.last td { color: #111; font-weight: 600 }
-pre { margin: 4px 0 0; font-size: 14px; line-height: 1.45; white-space: pre-wrap; overflow-wrap: anywhere }
+pre { margin: 4px 0 0; font-size: 14px; line-height: 1.45; white-space: pre-wrap;
+      overflow-wrap: anywhere }
 pre mark { background: #fbe7a1 } .source { counter-reset: line; font-size: 13px }
 .source span.l { counter-increment: line; display: block; padding-left: 3.2em; position: relative }
-.source span.l::before { content: counter(line); position: absolute; left: 0; width: 2.2em; text-align: right; color: #aaa }
-.source .log { background: #fdeecb } .source i { font-style: normal; font-size: 12px; color: #946200; padding-left: 1em }
+.source span.l::before { content: counter(line); position: absolute; left: 0; width: 2.2em;
+                         text-align: right; color: #aaa }
+.source .log { background: #fdeecb }
+.source i { font-style: normal; font-size: 12px; color: #946200; padding-left: 1em }
 .image { margin: 10px 0 }
-.cards { display: grid; grid-template-columns: repeat(auto-fill, minmax(320px, 1fr)); gap: 0 20px; align-items: start }
+.cards { display: grid; grid-template-columns: repeat(auto-fill, minmax(320px, 1fr)); gap: 0 20px;
+         align-items: start }
 table.count { border-collapse: collapse; margin: 12px 0; font-size: 15px }
 table.count td, table.count th { padding: 3px 16px 3px 0; text-align: center; font-weight: normal }
-table.count th:first-child { text-align: left; padding-right: 28px } table.count b { padding: 1px 8px; border-radius: 3px }
+table.count th:first-child { text-align: left; padding-right: 28px }
+table.count b { padding: 1px 8px; border-radius: 3px }
 """
 
 SCRIPT = """
@@ -55,7 +72,8 @@ const cells = [...document.querySelectorAll('.cell[data-at]')];
 const row = (command, answer, last) => {
   const tr = document.createElement('tr');
   if (last) tr.className = 'last';
-  for (const words of [command, answer]) tr.appendChild(document.createElement('td')).textContent = words;
+  for (const words of [command, answer])
+    tr.appendChild(document.createElement('td')).textContent = words;
   return tr;
 };
 function choose(cell) {
@@ -64,10 +82,12 @@ function choose(cell) {
     it.classList.toggle('chosen', it === cell);
     it.classList.toggle('same', it !== cell && cuts[it.dataset.at].letter === cut.letter);
   });
-  const rows = cut.steps.map(([command, answer], at) => row(command, answer, at === cut.steps.length - 1));
+  const rows = cut.steps.map(
+    ([command, answer], at) => row(command, answer, at === cut.steps.length - 1));
   document.getElementById('steps').replaceChildren(...rows);
   document.getElementById('told').textContent = cut.told;
-  document.getElementById('outcome').innerHTML = document.getElementById('outcome-' + cut.letter).innerHTML;
+  document.getElementById('outcome').innerHTML =
+    document.getElementById('outcome-' + cut.letter).innerHTML;
   document.getElementById('script').textContent =
     [...before, ...cut.steps.map(it => it[0]), 'last', 'show'].join('\\n');
 }
@@ -88,7 +108,7 @@ def choice_name(choice):
     words = choice.split()
     if len(words) > 2:
         return "drawn versions: line:version " + " ".join(words[2:])
-    return "the oldest version of each line" if words[1] == "old" else "the newest version of each line"
+    return f"the {'oldest' if words[1] == 'old' else 'newest'} version of each line"
 
 
 def steps_of(cut):
@@ -103,20 +123,23 @@ def steps_of(cut):
 def told_of(cut):
     """What a cut does, in a sentence."""
     at = cut.first or cut
-    told = f"The power goes off at event {at.event} of the call, and leaves {choice_name(at.choice)}."
+    told = f"The power goes off at event {at.event} of the call, and leaves "
+    told += f"{choice_name(at.choice)}."
     if cut.first:
-        told += f" It goes off again at event {cut.event} of the recovery, and leaves {choice_name(cut.choice)}."
+        told += f" It goes off again at event {cut.event} of the recovery, and leaves "
+        told += f"{choice_name(cut.choice)}."
     return told
 
 
 def pool_of(outcome, before):
     """A pool's lines, with the fields marked that aren't as before the call."""
-    known = {tuple(line.split()[:1 if line.startswith("root") else 2]): line.split() for line in before.pool}
+    known = {tuple(line.split()[:1 if line.startswith("root") else 2]): line.split()
+             for line in before.pool}
     lines = []
     for line in outcome.pool:
         head = 1 if line.startswith("root") else 2
         old = known.get(tuple(line.split()[:head]), [])
-        lines.append(" ".join(f"<mark>{html.escape(it)}</mark>" if it not in old else html.escape(it)
+        lines.append(" ".join(html.escape(it) if it in old else f"<mark>{html.escape(it)}</mark>"
                               for it in line.split()))
     lines.append(html.escape(outcome.last))
     if outcome.check is not None:
@@ -126,13 +149,15 @@ def pool_of(outcome, before):
 
 def spans(name, runs, titles):
     boxes = "".join(f'<div class="span {what}" style="grid-column: {first + 2} / {last + 3}" '
-                    f'title="{html.escape(titles.get(what, what))}">{what}</div>' for what, first, last in runs)
+                    f'title="{html.escape(titles.get(what, what))}">{what}</div>'
+                    for what, first, last in runs)
     return f'<div class="name" style="grid-column: 1">{name}</div>{boxes}'
 
 
 def cell(at, cut, letter, kind, column, more=""):
-    return (f'<div class="cell {kind}{more}" tabindex="0" data-at="{at}" style="grid-column: {column}" '
-            f'title="stop {cut.event}, {cut.choice}: {html.escape(cut.outcome.answer)}">{letter}</div>')
+    return (f'<div class="cell {kind}{more}" tabindex="0" data-at="{at}" '
+            f'style="grid-column: {column}" title="stop {cut.event}, {cut.choice}: '
+            f'{html.escape(cut.outcome.answer)}">{letter}</div>')
 
 
 class Page:
@@ -146,10 +171,11 @@ class Page:
         self.places = {id(cut): at for at, cut in enumerate(self.cuts)}
 
     def cell(self, cut, column, more=""):
-        return cell(self.places[id(cut)], cut, self.letters[id(cut)], self.explored.kind(cut.outcome), column, more)
+        return cell(self.places[id(cut)], cut, self.letters[id(cut)],
+                    self.explored.kind(cut.outcome), column, more)
 
     def by_choice(self):
-        """The cuts of the call by rows: oldest, newest, and the drawn ones of each event by turns."""
+        """The cuts of the call by rows: oldest, newest, and each event's drawn ones by turns."""
         rows = {"oldest": [], "newest": []}
         for event in range(self.explored.events):
             drawn = 0
@@ -162,12 +188,14 @@ class Page:
         return rows
 
     def time_line(self):
-        numbers = "".join(f'<div class="number">{event}</div>' for event in range(self.explored.events))
+        numbers = "".join(f'<div class="number">{event}</div>'
+                          for event in range(self.explored.events))
         rows = "".join(f'<div class="name" style="grid-column: 1">{name}</div>'
                        + "".join(self.cell(cut, cut.event + 2) for cut in cuts)
                        for name, cuts in self.by_choice().items())
         return (f'<div class="scroll"><div class="grid" style="grid-template-columns: 110px '
-                f'repeat({self.explored.events}, minmax(18px, 1fr))"><div class="name">stop</div>{numbers}'
+                f'repeat({self.explored.events}, minmax(18px, 1fr))">'
+                f'<div class="name">stop</div>{numbers}'
                 + spans("part of the call", self.explored.parts(), {})
                 + spans("stopped", self.explored.phases(), PHASES) + rows + "</div></div>")
 
@@ -178,8 +206,8 @@ class Page:
         left = f" Of their {of_all} events {left_out} are left out." if left_out else ""
         return (f'<p class="small">The cuts of the call leave {len(images)} different images. For '
                 "each of them a column is an event of its recovery at which the power went off "
-                "again, and the cells of a column are the oldest, the newest and the drawn versions."
-                f"{left}</p>")
+                "again, and the cells of a column are the oldest, the newest and the drawn "
+                f"versions.{left}</p>")
 
     def recoveries(self):
         """For each different image a row of its recovery's cuts."""
@@ -190,8 +218,9 @@ class Page:
             again = [it for it in self.explored.again if it.first is cuts[0]]
             if not again:
                 continue
-            name = (f"stop {cuts[0].event}, {html.escape(cuts[0].choice)}"
-                    + (f", and {len(cuts) - 1} cut{'s' * (len(cuts) > 2)} with the same image" if len(cuts) > 1 else ""))
+            name = f"stop {cuts[0].event}, {html.escape(cuts[0].choice)}"
+            if len(cuts) > 1:
+                name += f", and {len(cuts) - 1} cut{'s' * (len(cuts) > 2)} with the same image"
             columns = []
             for event in sorted({it.event for it in again}):
                 columns.append("<div>" + "".join(self.cell(it, 1, " small-cell") for it in again
@@ -208,8 +237,9 @@ class Page:
         cards = []
         for letter, kind, outcome, cuts in self.groups:
             again = sum(cut.first is not None for cut in cuts)
-            cards.append(f'<div class="card" id="outcome-{letter}"><h3><b class="{kind}">{letter}</b>'
-                         f'{html.escape(outcome.answer)}</h3><div class="small">{KINDS[kind]}; '
+            cards.append(f'<div class="card" id="outcome-{letter}"><h3>'
+                         f'<b class="{kind}">{letter}</b>{html.escape(outcome.answer)}</h3>'
+                         f'<div class="small">{KINDS[kind]}; '
                          f'{len(cuts) - again} cuts of the call, {again} of recoveries</div>'
                          f'{pool_of(outcome, self.explored.pool_before)}</div>')
         return "".join(cards)
@@ -222,12 +252,14 @@ class Page:
                 logged.setdefault(int(words[2]), []).append(" ".join(words[3:-1]))
         with open(self.explored.cnvm.program, encoding="utf-8", errors="replace") as file:
             lines = file.read().rstrip("\n").split("\n")
+        told = {at: f"<i>logged: {html.escape(', '.join(stores))}</i>"
+                for at, stores in logged.items()}
         return "".join(f'<span class="l{" log" if at in logged else ""}">{html.escape(line) or " "}'
-                       + (f"<i>logged: {html.escape(', '.join(logged[at]))}</i>" if at in logged else "") + "</span>"
-                       for at, line in enumerate(lines, 1))
+                       + told.get(at, "") + "</span>" for at, line in enumerate(lines, 1))
 
     def data(self):
-        return [{"letter": self.letters[id(cut)], "told": told_of(cut), "steps": steps_of(cut)} for cut in self.cuts]
+        return [{"letter": self.letters[id(cut)], "told": told_of(cut), "steps": steps_of(cut)}
+                for cut in self.cuts]
 
 
 def embedded(name, value):
@@ -241,23 +273,28 @@ def page_of(explored, listing):
     title = html.escape(f"{explored.call}, cut everywhere")
     plain, again = explored.counts(explored.cuts), explored.counts(explored.again)
     key = "".join(f'<th><b class="{kind}">{words}</b></th>' for kind, words in KINDS.items())
-    chosen = next((cut for cut in explored.cuts if cut.phase == "sealing" and cut.choice == "power new"), explored.cuts[0])
-    line = page.time_line().replace(f'data-at="{page.places[id(chosen)]}"', f'data-at="{page.places[id(chosen)]}" data-first="1"')
+    sealing = (cut for cut in explored.cuts
+               if cut.phase == "sealing" and cut.choice == "power new")
+    chosen = f'data-at="{page.places[id(next(sealing, explored.cuts[0]))]}"'
+    line = page.time_line().replace(chosen, chosen + ' data-first="1"')
+    before = html.escape("\n".join(explored.before) or "none: the pool is new")
     row = lambda name, counts: (f"<tr><th>{name}</th><td>{sum(counts.values())}</td>"
                                 + "".join(f"<td>{counts[kind]}</td>" for kind in KINDS) + "</tr>")
     return f"""<!doctype html>
-<html lang="en"><head><meta charset="utf-8"><meta name="viewport" content="width=device-width, initial-scale=1">
+<html lang="en"><head><meta charset="utf-8">
+<meta name="viewport" content="width=device-width, initial-scale=1">
 <title>{title}</title><style>{STYLE}</style></head><body>
 <h1>{code(explored.call)}, cut everywhere</h1>
-<p class="small">{html.escape(explored.cnvm.program)}; without a cut the answer is {code(explored.value)}.</p>
-<p>The call has {explored.events} events: stores, flushes and fences. The power went off at each of them, each cache
-line kept its oldest version, its newest one, or a drawn one, and the pool was recovered. The recoveries were cut in
-the same way.</p>
+<p class="small">{html.escape(explored.cnvm.program)}; without a cut the answer is
+{code(explored.value)}.</p>
+<p>The call has {explored.events} events: stores, flushes and fences. The power went off at each of
+them, each cache line kept its oldest version, its newest one, or a drawn one, and the pool was
+recovered. The recoveries were cut in the same way.</p>
 <table class="count"><tr><th></th><th>cuts</th>{key}</tr>
 {row("of the call", plain)}{row("of its recoveries", again)}</table>
 <h2>The call</h2>
-<p class="small">A column is a cut at that event: those to its left are done. Equal letters are equal outcomes.
-Choose a cell to see its commands and answers.</p>
+<p class="small">A column is a cut at that event: those to its left are done. Equal letters are
+equal outcomes. Choose a cell to see its commands and answers.</p>
 {line}
 <div class="two"><div>
 <h2>This cut</h2>
@@ -265,7 +302,7 @@ Choose a cell to see its commands and answers.</p>
 <div class="card" id="outcome"></div>
 <details class="small"><summary>as a script</summary><pre id="script"></pre></details>
 <h2>The commands before the call</h2>
-<div class="card"><pre>{html.escape(chr(10).join(explored.before) or 'none: the pool is new')}</pre></div>
+<div class="card"><pre>{before}</pre></div>
 </div><div>
 <h2>{html.escape(os.path.basename(explored.cnvm.program))}</h2>
 <div class="card"><pre class="source">{page.source()}</pre></div>
@@ -275,36 +312,44 @@ Choose a cell to see its commands and answers.</p>
 <h2>Recoveries that were cut, too</h2>
 {page.told_of_images()}
 {page.recoveries()}
-{embedded("cuts", page.data())}{embedded("before", explored.before)}<script>{SCRIPT}</script></body></html>
+{embedded("cuts", page.data())}{embedded("before", explored.before)}<script>{SCRIPT}</script>
+</body></html>
 """
 
 
 def storm_call(explored, cuts):
-    """One call of a storm: a cell for each drawn cut, at its event, and the other pools that cuts left."""
+    """One call of a storm: a cell for each drawn cut, at its event, and the other pools that cuts
+    left."""
     counts = explored.counts(cuts)
     columns = []
     for event in sorted({cut.event for cut in cuts}):
-        cells = "".join(f'<div class="cell {explored.kind(cut.outcome)}" title="stop {cut.event}, {cut.choice}: '
-                        f'{html.escape(cut.outcome.answer)}">{cut.choice.split()[1]}</div>' for cut in cuts if cut.event == event)
+        cells = "".join(f'<div class="cell {explored.kind(cut.outcome)}" title="stop {cut.event}, '
+                        f'{cut.choice}: {html.escape(cut.outcome.answer)}">'
+                        f'{cut.choice.split()[1]}</div>' for cut in cuts if cut.event == event)
         columns.append(f'<div><div class="number">{event}</div>{cells}</div>')
-    others = "".join(f'<div class="card">{code(f"stop {cut.event}")}, {code(cut.choice)}: {code(cut.outcome.answer)}'
-                     f'{pool_of(cut.outcome, explored.pool_before)}</div>'
+    others = "".join(f'<div class="card">{code(f"stop {cut.event}")}, {code(cut.choice)}: '
+                     f'{code(cut.outcome.answer)}{pool_of(cut.outcome, explored.pool_before)}</div>'
                      for cut in cuts if explored.kind(cut.outcome) == "other")
-    key = "; ".join(f'<b class="{kind}">{counts[kind]}</b> left {words}' for kind, words in KINDS.items() if counts[kind])
-    return (f'<h2>{code(explored.call)}</h2><p class="small">{explored.events} events; without a cut the answer is '
-            f'{code(explored.value)}. {len(cuts)} cuts: {key or "none"}.</p><div class="scroll"><div class="grid" '
-            f'style="grid-template-columns: repeat({len(columns) or 1}, 44px)">{"".join(columns)}</div></div>{others}')
+    key = "; ".join(f'<b class="{kind}">{counts[kind]}</b> left {words}'
+                    for kind, words in KINDS.items() if counts[kind])
+    return (f'<h2>{code(explored.call)}</h2><p class="small">{explored.events} events; without a '
+            f'cut the answer is {code(explored.value)}. {len(cuts)} cuts: {key or "none"}.</p>'
+            '<div class="scroll"><div class="grid" style="grid-template-columns: '
+            f'repeat({len(columns) or 1}, 44px)">{"".join(columns)}</div></div>{others}')
 
 
 def storm_page_of(program, calls):
     """The drawn cuts of a storm, each call of the script with its own, as a page."""
-    title = html.escape(f"{os.path.basename(program)}, {sum(len(cuts) for _, cuts in calls)} drawn cuts")
+    count = sum(len(cuts) for _, cuts in calls)
+    title = html.escape(f"{os.path.basename(program)}, {count} drawn cuts")
     return f"""<!doctype html>
-<html lang="en"><head><meta charset="utf-8"><meta name="viewport" content="width=device-width, initial-scale=1">
+<html lang="en"><head><meta charset="utf-8">
+<meta name="viewport" content="width=device-width, initial-scale=1">
 <title>{title}</title><style>{STYLE}</style></head><body>
 <h1>{title}</h1>
-<p>The calls of the script in their order. A column is an event of the call at which the power went off; each cell is a
-drawn cut there, with the oldest (old) or the newest (new) version of each cache line.</p>
+<p>The calls of the script in their order. A column is an event of the call at which the power went
+off; each cell is a drawn cut there, with the oldest (old) or the newest (new) version of each cache
+line.</p>
 {"".join(storm_call(explored, cuts) for explored, cuts in calls)}
 </body></html>
 """

@@ -1,5 +1,5 @@
-/* A store of numbers under names, which a kill leaves as it was: `engine POOL` answers the commands on
-   its standard input, a line each, once what they did is durable.
+/* A store of numbers under names, which a kill leaves as it was: `engine POOL` answers the commands
+   on its standard input, a line each, once what they did is durable.
 
        put KEY NUMBER        new, or was NUMBER where there is no room for it
        get KEY               is NUMBER, or none
@@ -31,8 +31,9 @@ static void give_up(const char *path, struct cnvm_fault fault) {
     case CNVM_BUSY: fprintf(stderr, "engine: %s: another process has it\n", path); break;
     case CNVM_DIGEST: fprintf(stderr, "engine: %s: it is a pool of another program\n", path); break;
     default:
-        fprintf(stderr, "engine: %s: it is no pool of this program (fault %d: %" PRId64 ", %" PRId64 ")\n",
-                path, fault.kind, fault.found, fault.wanted);
+        fprintf(stderr, "engine: %s: it is no pool of this program", path);
+        fprintf(stderr, " (fault %d: %" PRId64 ", %" PRId64 ")\n", fault.kind, fault.found,
+                fault.wanted);
     }
     exit(1);
 }
@@ -67,7 +68,8 @@ static int read_number(const char *word, int64_t *number) {
 /* The value of an answer that a transaction of this store has to give. */
 static int64_t value_of(struct cnvm_answer answer) {
     if (answer.status == CNVM_DONE) return answer.value;
-    fprintf(stderr, "engine: the pool is unusable (status %d, trap %d)\n", answer.status, answer.trap);
+    fprintf(stderr, "engine: the pool is unusable (status %d, trap %d)\n", answer.status,
+            answer.trap);
     exit(1);
 }
 
@@ -77,7 +79,9 @@ static int is_done(struct cnvm_answer answer) {
     return 1;
 }
 
-static struct cnvm_answer get(struct key k) { return store_get(pool, k.words[0], k.words[1], k.words[2]); }
+static struct cnvm_answer get(struct key k) {
+    return store_get(pool, k.words[0], k.words[1], k.words[2]);
+}
 
 static void put(struct key k, int64_t number) {
     struct cnvm_answer old = get(k);
@@ -99,8 +103,8 @@ static void del(struct key k) {
 }
 
 static void move(struct key k, struct key l, int64_t number) {
-    struct cnvm_answer answer = store_move(pool, k.words[0], k.words[1], k.words[2], l.words[0], l.words[1],
-                                           l.words[2], number);
+    struct cnvm_answer answer = store_move(pool, k.words[0], k.words[1], k.words[2], l.words[0],
+                                           l.words[1], l.words[2], number);
     puts(is_done(answer) ? "moved" : "refused");
 }
 
@@ -116,7 +120,8 @@ static int answer(char **words, int count) {
     if (count < 2 || !read_key(words[1], &key)) return 0;
     if (count == 2 && strcmp(name, "get") == 0) return tell(key), 1;
     if (count == 2 && strcmp(name, "del") == 0) return del(key), 1;
-    if (count == 3 && strcmp(name, "put") == 0 && read_number(words[2], &number)) return put(key, number), 1;
+    if (count == 3 && strcmp(name, "put") == 0 && read_number(words[2], &number))
+        return put(key, number), 1;
     if (count != 4 || strcmp(name, "move") != 0) return 0;
     if (!read_key(words[2], &other) || !read_number(words[3], &number)) return 0;
     return move(key, other, number), 1;
@@ -128,7 +133,8 @@ int main(int count, char **words) {
     begin(words[1]);
     while (fgets(line, sizeof line, stdin) != NULL) {
         int found = 0;
-        for (char *part = strtok(line, " \n"); part != NULL && found < MOST_WORDS; part = strtok(NULL, " \n"))
+        char *part = strtok(line, " \n");
+        for (; part != NULL && found < MOST_WORDS; part = strtok(NULL, " \n"))
             parts[found++] = part;
         if (found != 0 && !answer(parts, found)) puts("what?");
         fflush(stdout);

@@ -75,8 +75,10 @@ tx int64_t del(int64_t a, int64_t b, int64_t c) {
     return 1;
 }
 
-// Moves an amount between two keys. It is rolled back where one isn't there, or the first has too little.
-tx abort int64_t move(int64_t a, int64_t b, int64_t c, int64_t d, int64_t e, int64_t f, int64_t amount) {
+// Moves an amount between two keys. It is rolled back where one isn't there, or the first has too
+// little.
+tx abort int64_t move(int64_t a, int64_t b, int64_t c, int64_t d, int64_t e, int64_t f,
+                      int64_t amount) {
     struct Pair *giver = find(a, b, c);
     struct Pair *taker = find(d, e, f);
     giver->value -= amount;
