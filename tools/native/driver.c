@@ -1,13 +1,16 @@
 /* Runs commands on a pool of an emitted program, for tools/check_native.
 
-       driver create|open FILE SYNC [--stop K] [--old OLD] [--told TOLD] < commands
+       driver create|open FILE SYNC [--stop K] [--old OLD] [--told TOLD] < COMMANDS
 
    Commands are lines, and most are answered as `cnvm run` does:
 
        call NAME A..      runs a transaction
        last               tells how many are done, and the last value
        stop K             ends the process right before the event numbered K from now
-       threads N M NAME A..   runs M of these calls in each of N threads, and tells how many were done
+       threads N M NAME A..   runs M of these calls in each of N threads, and tells how many were
+                          done
+       beside FILE N M NAME A..   the same with half of the threads on another pool, of which it
+                          tells what `last` tells
 
    The first answer of an opening is that of its recovery. --stop is a `stop` of the opening itself;
    --old keeps OLD as shadow.h says. With --told the calls are read first, and then run without an
@@ -63,8 +66,8 @@ static void tell(const char *before, struct cnvm_answer a) {
 /* The words of a line, cut at its blanks. */
 static int words_of(char *line, char **words) {
     int count = 0;
-    for (char *word = strtok(line, " \n"); word != NULL && count < MOST_WORDS; word = strtok(NULL, " \n"))
-        words[count++] = word;
+    char *word = strtok(line, " \n");
+    for (; word != NULL && count < MOST_WORDS; word = strtok(NULL, " \n")) words[count++] = word;
     return count;
 }
 
@@ -74,12 +77,15 @@ static int64_t number(const char *word) { return strtoll(word, NULL, 10); }
 static struct call call_of(char **words, int count) {
     struct call call = {.entry = 0};
     while (call.entry < ENTRIES && strcmp(entries[call.entry].name, words[0]) != 0) call.entry++;
-    if (call.entry == ENTRIES || entries[call.entry].parameters != count - 1) fail("no such call");
+    if (call.entry == ENTRIES) fail("no such call");
+    if (entries[call.entry].parameters != count - 1) fail("another number of arguments");
     for (int i = 1; i < count; i++) call.args[i - 1] = number(words[i]);
     return call;
 }
 
-static struct cnvm_answer run(const struct call *call) { return entries[call->entry].run(pool, call->args); }
+static struct cnvm_answer run(POOL *on, const struct call *call) {
+    return entries[call->entry].run(on, call->args);
+}
 
 static uint64_t events_so_far(void) {
     uint64_t events[3] = {0};
@@ -89,32 +95,50 @@ static uint64_t events_so_far(void) {
     return events[0] + events[1] + events[2];
 }
 
-/* How often each thread runs a call, and how many of these were done. */
+/* How often a thread runs a call on a pool, and how many of these were done. */
 struct share {
+    POOL *pool;
     struct call call;
     int64_t times, done;
 };
 
 static void *run_share(void *given) {
     struct share *share = given;
-    for (int64_t i = 0; i < share->times; i++) share->done += run(&share->call).status == CNVM_DONE;
+    for (int64_t i = 0; i < share->times; i++)
+        share->done += run(share->pool, &share->call).status == CNVM_DONE;
     return NULL;
 }
 
-static void run_threads(int count, int64_t times, struct call call) {
+/* The words tell how many threads there are, how often each runs a call, and the call. Every other
+   thread has the other pool. */
+static void run_threads(POOL *other, char **words, int count) {
     pthread_t threads[MOST_THREADS];
     struct share shares[MOST_THREADS];
+    struct call call = call_of(words + 2, count - 2);
     int64_t done = 0;
-    if (count > MOST_THREADS) fail("too many threads");
-    for (int i = 0; i < count; i++) {
-        shares[i] = (struct share){call, times, 0};
+    int most = (int)number(words[0]);
+    if (most > MOST_THREADS) fail("too many threads");
+    for (int i = 0; i < most; i++) {
+        shares[i] = (struct share){i % 2 ? other : pool, call, number(words[1]), 0};
         if (pthread_create(&threads[i], NULL, run_share, &shares[i]) != 0) fail("no thread");
     }
-    for (int i = 0; i < count; i++) {
+    for (int i = 0; i < most; i++) {
         pthread_join(threads[i], NULL);
         done += shares[i].done;
     }
-    printf("done %" PRId64 "\n", done);
+    printf("done %" PRId64, done);
+}
+
+static void tell_last(const char *before, POOL *of, const char *after) {
+    printf("%slast %" PRIu64 " %" PRId64 "%s", before, POOL_DONE(of), POOL_LAST(of), after);
+}
+
+static void run_beside(char **words, int count) {
+    POOL *other = POOL_OPEN(words[0], CNVM_NOSYNC, NULL, NULL);
+    if (other == NULL) fail("no other pool");
+    run_threads(other, words + 1, count - 1);
+    tell_last(" ", other, "\n");
+    POOL_CLOSE(other);
 }
 
 static void command(char *line) {
@@ -122,13 +146,16 @@ static void command(char *line) {
     int count = words_of(line, words);
     if (count >= 2 && strcmp(words[0], "call") == 0) {
         struct call call = call_of(words + 1, count - 1);
-        tell("", run(&call));
+        tell("", run(pool, &call));
     } else if (count == 1 && strcmp(words[0], "last") == 0) {
-        printf("last %" PRIu64 " %" PRId64 "\n", POOL_DONE(pool), POOL_LAST(pool));
+        tell_last("", pool, "\n");
     } else if (count == 2 && strcmp(words[0], "stop") == 0) {
         cut_at = events_so_far() + (unsigned long)number(words[1]);
     } else if (count >= 4 && strcmp(words[0], "threads") == 0) {
-        run_threads((int)number(words[1]), number(words[2]), call_of(words + 3, count - 3));
+        run_threads(pool, words + 1, count - 1);
+        printf("\n");
+    } else if (count >= 5 && strcmp(words[0], "beside") == 0) {
+        run_beside(words + 1, count - 1);
     } else if (count != 0) {
         fail("no such command");
     }
@@ -166,7 +193,7 @@ static void run_told(struct told *told) {
     }
     for (size_t i = 0; i < count; i++) {
         told->begun = i + 1;
-        told->value = run(&calls[i]).value;
+        told->value = run(pool, &calls[i]).value;
         told->ended = i + 1;
     }
     free(calls);
@@ -178,9 +205,11 @@ static void begin(char **words, const char *old) {
     struct cnvm_answer recovered;
     int sync = (int)number(words[3]), creates = strcmp(words[1], "create") == 0;
     if (!creates && old != NULL) shadow_begin(words[2], old);
-    pool = creates ? POOL_CREATE(words[2], sync, &fault) : POOL_OPEN(words[2], sync, &recovered, &fault);
+    pool = creates ? POOL_CREATE(words[2], sync, &fault)
+                   : POOL_OPEN(words[2], sync, &recovered, &fault);
     if (pool == NULL) {
-        printf("fault %d %d %" PRId64 " %" PRId64 "\n", fault.kind, fault.error, fault.found, fault.wanted);
+        printf("fault %d %d %" PRId64 " %" PRId64 "\n", fault.kind, fault.error, fault.found,
+               fault.wanted);
         exit(1);
     }
     if (creates && old != NULL) shadow_begin(words[2], old);

@@ -1,5 +1,6 @@
-/* A file that gets each line of a pool once it was flushed and then fenced. So it is at every moment
-   what a loss of power leaves at least: the image of `power old`. */
+/* A file that gets each line of a pool once it was flushed and then fenced. So it is at every
+   moment what a loss of power leaves at least: the image of `power old`. Where a fence is an msync,
+   it gets what that call names. */
 #ifndef SHADOW
 #define SHADOW
 

@@ -134,10 +134,10 @@ static int cn_settle_folder(const char *path) {
     char *folder = strndup(end == NULL ? "." : path, length);
     if (folder == NULL) return -1;
     int file = open(folder, O_RDONLY | O_DIRECTORY | O_CLOEXEC);
+    int failed = file < 0 ? -1 : fsync(file), error = errno;
     free(folder);
-    if (file < 0) return -1;
-    int failed = fsync(file);
-    close(file);
+    if (file >= 0) close(file);
+    errno = error;
     return failed;
 }
 
@@ -151,7 +151,9 @@ static char *cn_draft(const char *path, int *file) {
         if (*file >= 0) return name;
         if (errno != EEXIST) break;
     }
+    int error = errno;
     free(name);
+    errno = error;
     return NULL;
 }
 
@@ -180,7 +182,10 @@ static struct cn_pool *cn_create(const char *path, int sync, struct cnvm_fault *
     if (!failed && link(draft, path) != 0) failed = cn_fail_system(fault);
     unlink(draft);
     free(draft);
-    if (!failed && cn_settle_folder(path) != 0) failed = cn_fail_system(fault);
+    if (!failed && cn_settle_folder(path) != 0) {
+        failed = cn_fail_system(fault);
+        unlink(path);
+    }
     if (!failed) return p;
     cn_close(p);
     return NULL;

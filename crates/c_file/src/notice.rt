@@ -5,9 +5,9 @@ pub const NOTICE: &str =
    of `cnvm`, version 2: each takes what the other left, after a kill or a loss of power too.
 
    Proved: each byte of this file is what a definition says of the program's machine code, which
-   agrees with the program's source. A step of each statement below `the program's functions` is
-   the machine's step, as long as the functions of the runtime that it calls do what their comments
-   say. Of searches for a free slot, calls and returns that isn't proved yet.
+   agrees with the program's source. The run of the functions below `the program's functions` is
+   the machine's run: the same stores, records, flushes and fences in the same order, and the same
+   value or trap, as long as the functions of the runtime that they call do what their comments say.
 
    Not proved but tested: the runtime, which is all between `the runtime` and these functions.
    Trusted: the compiler of C; cn_store, cn_write_back and cn_drain, and that memory keeps what
