@@ -1,0 +1,4 @@
+pub mod Lines
+pub mod Refuting
+pub mod Wrongs
+pub mod Mets

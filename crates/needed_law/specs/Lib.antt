@@ -1,0 +1,5 @@
+pub mod SmallPool
+pub mod Trials
+pub mod Wrong
+pub mod Needed
+pub mod Met
