@@ -129,18 +129,18 @@ module _ (image : Image) (tx : ℕ) (args : List ℤ) (d b : Device) (k k1 : ℕ
       → EndsWell (answer_of_call r) b
   tx_well r is = by_standing (standing_of (view d.cache)) refl
     where
-    by_standing : (st : stands.Standing) → standing_of (view d.cache) ≡ st
-        → EndsWell (answer_of_call r) b
-    by_standing stand.Ready same = called_well r (is.ready takes.0 same)
-    by_standing (stand.Unusable kind) same =
-        let h = is.unusable kind takes.0 same in
-        as_it_was (answer_of_call r) (answer.RefusedUnusable kind) d b takes.1
-        (ap answer_of_call h.0) h.1 no
-    by_standing stand.Numbers same =
-        let h = is.numbers takes.0 same in
-        as_it_was (answer_of_call r) answer.RefusedNumbers d b takes.1
-        (ap answer_of_call h.0) h.1 no
-    by_standing stand.Off same = absurd (never_off (view d.cache) same)
+      by_standing : (st : stands.Standing) → standing_of (view d.cache) ≡ st
+          → EndsWell (answer_of_call r) b
+      by_standing stand.Ready same = called_well r (is.ready takes.0 same)
+      by_standing (stand.Unusable kind) same =
+          let h = is.unusable kind takes.0 same in
+          as_it_was (answer_of_call r) (answer.RefusedUnusable kind) d b takes.1
+          (ap answer_of_call h.0) h.1 no
+      by_standing stand.Numbers same =
+          let h = is.numbers takes.0 same in
+          as_it_was (answer_of_call r) answer.RefusedNumbers d b takes.1
+          (ap answer_of_call h.0) h.1 no
+      by_standing stand.Off same = absurd (never_off (view d.cache) same)
 
   marked_well : (r : AbortAnswer) → AbortCalled r image tx args d b k k1
       → EndsWell (answer_of_marked_call r) b
@@ -156,18 +156,18 @@ module _ (image : Image) (tx : ℕ) (args : List ℤ) (d b : Device) (k k1 : ℕ
       → EndsWell (answer_of_marked_call r) b
   abort_well r is = by_standing (standing_of (view d.cache)) refl
     where
-    by_standing : (st : stands.Standing) → standing_of (view d.cache) ≡ st
-        → EndsWell (answer_of_marked_call r) b
-    by_standing stand.Ready same = marked_well r (is.ready takes.0 same)
-    by_standing (stand.Unusable kind) same =
-        let h = is.unusable kind takes.0 same in
-        as_it_was (answer_of_marked_call r) (answer.RefusedUnusable kind) d b takes.1
-        (ap answer_of_marked_call h.0) h.1 no
-    by_standing stand.Numbers same =
-        let h = is.numbers takes.0 same in
-        as_it_was (answer_of_marked_call r) answer.RefusedNumbers d b takes.1
-        (ap answer_of_marked_call h.0) h.1 no
-    by_standing stand.Off same = absurd (never_off (view d.cache) same)
+      by_standing : (st : stands.Standing) → standing_of (view d.cache) ≡ st
+          → EndsWell (answer_of_marked_call r) b
+      by_standing stand.Ready same = marked_well r (is.ready takes.0 same)
+      by_standing (stand.Unusable kind) same =
+          let h = is.unusable kind takes.0 same in
+          as_it_was (answer_of_marked_call r) (answer.RefusedUnusable kind) d b takes.1
+          (ap answer_of_marked_call h.0) h.1 no
+      by_standing stand.Numbers same =
+          let h = is.numbers takes.0 same in
+          as_it_was (answer_of_marked_call r) answer.RefusedNumbers d b takes.1
+          (ap answer_of_marked_call h.0) h.1 no
+      by_standing stand.Off same = absurd (never_off (view d.cache) same)
 
   runs_well : (is_marked : Bool) (a : Answer) (n : Mode)
       → RunsBy is_marked image tx args d a n b k k1 → EndsWell a b
@@ -252,8 +252,8 @@ module _ (image : Image) (d b : Device) (k k1 : ℕ) (takes : TakesAll d) where
         by_numbers (numbers_out image d) refl ((Decides-int_eq mark (pos 0)).0 same)
     by_mark false other =
         let marks : mark ≢ pos 0 = λ zero.
-            let clash : true ≡ false = sym ((Decides-int_eq mark (pos 0)).1 zero) ∙ other in
-            absurd cc in
+        let clash : true ≡ false = sym ((Decides-int_eq mark (pos 0)).1 zero) ∙ other in
+        absurd cc in
         let h = is.unusable takes.0 marks in
         as_it_was (answer_of_recovery r) (answer.RefusedUnusable _) d b takes.1
         (ap answer_of_recovery h.0) h.1 no
@@ -287,8 +287,8 @@ module _ (image : Image) (d b : Device) (k k1 : ℕ) (takes : TakesAll d) where
         marked_by_numbers (numbers_out image d) refl ((Decides-int_eq mark (pos 0)).0 same)
     marked_by_mark false other =
         let marks : mark ≢ pos 0 = λ zero.
-            let clash : true ≡ false = sym ((Decides-int_eq mark (pos 0)).1 zero) ∙ other in
-            absurd cc in
+        let clash : true ≡ false = sym ((Decides-int_eq mark (pos 0)).1 zero) ∙ other in
+        absurd cc in
         let h = is.unusable takes.0 marks in
         as_it_was (answer_of_marked_recovery r) (answer.RefusedUnusable _) d b takes.1
         (ap answer_of_marked_recovery h.0) h.1 no
@@ -369,23 +369,26 @@ module _ (program : Program) (a : Answer) (n : Mode) (b : Device) (k k1 : ℕ) w
         → fallen 0 choice.picks ≡ None → commanded.Powers program choice m d a n b k k1
         → EndsWell a b × IsRecoveryEnd a
     by_bad choice m (Some line) is none h =
-        let why = h.1 line none is in
-        (refused_well (answer.RefusedPick line) m d safe no why,
-        subst IsRecoveryEnd (sym why.0) tt)
+        let why = h.1 line none is in (
+          refused_well (answer.RefusedPick line) m d safe no why,
+          subst IsRecoveryEnd (sym why.0) tt,
+        )
     by_bad choice m None is none h =
         let recovers = h.2 none is in
-        let up : TakesAll (powered choice d) = (refl, safe) in
-        (recovers_well program.image (powered choice d) b k k1 up
-        (owes_marked program (powered choice d)) a n recovers,
-        recovers_end program.image (powered choice d) b k k1 up
-        (owes_marked program (powered choice d)) a n recovers)
+        let up : TakesAll (powered choice d) = (refl, safe) in (
+          recovers_well program.image (powered choice d) b k k1 up
+              (owes_marked program (powered choice d)) a n recovers,
+          recovers_end program.image (powered choice d) b k k1 up
+              (owes_marked program (powered choice d)) a n recovers,
+        )
 
     by_fallen : (choice : Choice) (m : Mode) (x : Option ℕ) → fallen 0 choice.picks ≡ x
         → commanded.Powers program choice m d a n b k k1 → EndsWell a b × IsRecoveryEnd a
     by_fallen choice m (Some line) is h =
-        let why = h.0 line is in
-        (refused_well (answer.RefusedPick line) m d safe no why,
-        subst IsRecoveryEnd (sym why.0) tt)
+        let why = h.0 line is in (
+          refused_well (answer.RefusedPick line) m d safe no why,
+          subst IsRecoveryEnd (sym why.0) tt,
+        )
     by_fallen choice m None is h =
         by_bad choice m (bad (memory_of d) choice.picks) refl is h
 
@@ -399,28 +402,28 @@ module _ (program : Program) (a : Answer) (n : Mode) (b : Device) (k k1 : ℕ) w
     show_well mode.Ready h =
         (tells_end a h.0, subst IsSafe (sym h.1) safe)
       where
-      tells_end : (x : Answer)
-          → commanded.Tells (shapes_of program.typed) program.image.parts.sizes d x n
-          → IsInterrupted x → ⊥
-      tells_end answer.Silent tells broken = broken
-      tells_end (answer.Done value logged) tells broken = broken
-      tells_end (answer.Trap kind) tells broken = broken
-      tells_end (answer.Aborted kind) tells broken = broken
-      tells_end (answer.Stopped at) tells broken = tells
-      tells_end answer.DeviceFault tells broken = tells
-      tells_end answer.RecoveredNone tells broken = broken
-      tells_end (answer.RecoveredRedone value logged) tells broken = broken
-      tells_end (answer.RecoveredTrap kind) tells broken = broken
-      tells_end (answer.RecoveredAborted kind) tells broken = broken
-      tells_end (answer.Shown text) tells broken = broken
-      tells_end (answer.Last done value) tells broken = broken
-      tells_end answer.NoMemory tells broken = broken
-      tells_end answer.RefusedDown tells broken = broken
-      tells_end (answer.RefusedUnusable kind) tells broken = broken
-      tells_end answer.RefusedUnknown tells broken = broken
-      tells_end answer.RefusedArity tells broken = broken
-      tells_end answer.RefusedNumbers tells broken = broken
-      tells_end (answer.RefusedPick line) tells broken = broken
+        tells_end : (x : Answer)
+            → commanded.Tells (shapes_of program.typed) program.image.parts.sizes d x n
+            → IsInterrupted x → ⊥
+        tells_end answer.Silent tells broken = broken
+        tells_end (answer.Done value logged) tells broken = broken
+        tells_end (answer.Trap kind) tells broken = broken
+        tells_end (answer.Aborted kind) tells broken = broken
+        tells_end (answer.Stopped at) tells broken = tells
+        tells_end answer.DeviceFault tells broken = tells
+        tells_end answer.RecoveredNone tells broken = broken
+        tells_end (answer.RecoveredRedone value logged) tells broken = broken
+        tells_end (answer.RecoveredTrap kind) tells broken = broken
+        tells_end (answer.RecoveredAborted kind) tells broken = broken
+        tells_end (answer.Shown text) tells broken = broken
+        tells_end (answer.Last done value) tells broken = broken
+        tells_end answer.NoMemory tells broken = broken
+        tells_end answer.RefusedDown tells broken = broken
+        tells_end (answer.RefusedUnusable kind) tells broken = broken
+        tells_end answer.RefusedUnknown tells broken = broken
+        tells_end answer.RefusedArity tells broken = broken
+        tells_end answer.RefusedNumbers tells broken = broken
+        tells_end (answer.RefusedPick line) tells broken = broken
     show_well mode.Down h = refused_well answer.RefusedDown mode.Down d safe no h
     show_well (mode.Unusable kind) h =
         refused_well (answer.RefusedUnusable kind) (mode.Unusable kind) d safe no h
