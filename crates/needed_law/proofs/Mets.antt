@@ -96,14 +96,15 @@ unfolding number_of
 trapped_undone k last e = let no : suc (suc k) ≡ 1 = ap number_of e in omega arith
 
 -- stamps: two records, of which the second has no valid stamp
-two_stamps : (image : Words) (a s r : ℕ) → image (small_word (RecordStamp 0)) ≡ pos s → s ≤ suc a
+pub two_stamps : (image : Words) (a s r : ℕ)
+    → image (small_word (RecordStamp 0)) ≡ pos s → s ≤ suc a
     → image (small_word (RecordStamp 1)) ≡ pos r → r ≤ suc a
     → (j : ℕ) → j < 2 → IsUpTo (suc a) (image (small_word (RecordStamp j)))
 two_stamps image a s r first le second le2 zero lt = (s, le, first)
 two_stamps image a s r first le second le2 (suc zero) lt = (r, le2, second)
 two_stamps image a s r first le second le2 (suc (suc j)) lt = absurd (omega arith)
 
-valid_first : (image : Words) (a : ℕ)
+pub valid_first : (image : Words) (a : ℕ)
     → (image (small_word (RecordStamp 1)) ≡ pos (suc a)
     → image (small_word (RecordStamp 0)) ≡ pos (suc a))
     → (j k : ℕ) → j < k → k < 2 → image (small_word (RecordStamp k)) ≡ pos (suc a)
@@ -113,7 +114,7 @@ valid_first image a f zero (suc zero) lt fits e = f e
 valid_first image a f (suc j) (suc zero) lt fits e = absurd (omega arith)
 valid_first image a f j (suc (suc k)) lt fits e = absurd (omega arith)
 
-abbrev good_after : Good (small_pool after_inc) 1 (small_heap after_inc) after_inc
+abbrev pub good_after : Good (small_pool after_inc) 1 (small_heap after_inc) after_inc
 good_after = record {
   super = λ k lt. refl;
   mark = refl;
@@ -130,7 +131,7 @@ good_after = record {
   heap = λ w lt. refl;
 }
 
-abbrev good_retired : Good (small_pool retired_once) 2 (small_heap retired_once) retired_once
+abbrev pub good_retired : Good (small_pool retired_once) 2 (small_heap retired_once) retired_once
 good_retired = record {
   super = λ k lt. refl;
   mark = refl;
@@ -190,14 +191,14 @@ restored_is found other n counted few words first below below2 (suc w) =
     ∙ words_past 65 found (small_word (Heap (suc w))) below (omega arith)
     ∙ sym (words_past 65 other (small_word (Heap (suc w))) below2 (omega arith))
 
-counter_words : (image : Words) → image (small_word (RecordWord 0)) ≡ pos 0
+pub counter_words : (image : Words) → image (small_word (RecordWord 0)) ≡ pos 0
     → image (small_word (RecordWord 1)) ≡ pos 0 → (j : ℕ) → j < 2
     → image (small_word (RecordWord j)) ≡ pos 0
 counter_words image zero_is one_is zero lt = zero_is
 counter_words image zero_is one_is (suc zero) lt = one_is
 counter_words image zero_is one_is (suc (suc j)) lt = absurd (omega arith)
 
-second_words : (image : Words) → image (small_word (Argument 0)) ≡ pos 1
+pub second_words : (image : Words) → image (small_word (Argument 0)) ≡ pos 1
     → image (small_word (Argument 1)) ≡ pos 5 → (k : ℕ) → k ≤ 1
     → image (small_word (Argument k)) ≡ call_word (second_call (pos 1)) k
 second_words image function argument zero le = function
@@ -283,7 +284,7 @@ below_twice = (
   ),
 )
 
-once_restored : (w : ℕ) → restored (pool_of small_sizes) 1 owed_once w ≡ small_heap after_inc w
+pub once_restored : (w : ℕ) → restored (pool_of small_sizes) 1 owed_once w ≡ small_heap after_inc w
 unfolding count restored
 once_restored = restored_is once_list after_list 1 refl (omega arith)
     (counter_words owed_once refl refl) refl below_once below_after
@@ -293,7 +294,7 @@ unfolding count restored
 twice_restored = restored_is twice_list after_list 2 refl (omega arith)
     (counter_words owed_twice refl refl) refl below_twice below_after
 
-once_count : count (pool_of small_sizes) 1 owed_once ≡ 1
+pub once_count : count (pool_of small_sizes) 1 owed_once ≡ 1
 unfolding count
 once_count = refl
 
@@ -301,12 +302,12 @@ twice_count : count (pool_of small_sizes) 1 owed_twice ≡ 2
 unfolding count
 twice_count = refl
 
-in_small : (image : Words) (n : ℕ) → n ≤ 2
+pub in_small : (image : Words) (n : ℕ) → n ≤ 2
     → ((j : ℕ) → j < 2 → image (small_word (RecordWord j)) ≡ pos 0) → (j : ℕ) → j < n
     → (u : ℕ) × (image (small_word (RecordWord j)) ≡ pos u) × (u < 24)
 in_small image n few words j lt = (0, words j (omega arith), omega arith)
 
-abbrev owed_once_is : Owed (small_pool owed_once) (second_call (pos 1))
+abbrev pub owed_once_is : Owed (small_pool owed_once) (second_call (pos 1))
     (λ w. IsTrue (is_counter w)) (λ w. IsTrue (is_counter w)) (small_heap after_inc)
     (KeepsLast (Halted (pos 8))) owed_once
 owed_once_is = record {
@@ -475,7 +476,7 @@ keeps_redo found n result trace meets one =
     (λ w. IsTrue (is_counter w)) (small_heap after_inc) result trace (omega arith) meets.run found
     meets.owed n meets.counted (λ lt. meets.attempt) (collapsed found) meets.only)
 
-tidy_count : count (pool_of small_sizes) 1 retired_once ≡ 1
+pub tidy_count : count (pool_of small_sizes) 1 retired_once ≡ 1
 unfolding count
 tidy_count = refl
 

@@ -3,3 +3,7 @@ pub mod Trials
 pub mod Wrong
 pub mod Needed
 pub mod Met
+pub mod MetRuns
+pub mod MetSession
+pub mod AnswerKind
+pub mod Answered
