@@ -1,5 +1,5 @@
 -- The premises of the laws of runs and of cut calls and recoveries are met by `inc 5` as code of
--- the machine: the counter is loaded, the argument added, and the sum stored behind its LOG.
+-- the machine: the counter is loaded, the argument added, and the sum stored after its LOG.
 use Rattle.std.specs.Prelude.{ℕ, List, [], ◌∷◌, ℤ, pos, refl}
 use Rattle.cache_model.specs.Cache.{Words, Cache}
 use Rattle.cache_model.specs.Image.{HasOne}
