@@ -23,9 +23,7 @@ use Rattle.args_log.specs.Pending.{tx_number}
 use Rattle.crash_law.specs.Pools.{Call}
 use Rattle.crash_law.specs.Law.{IsAtRest, IsCut, IsEnd}
 use Rattle.run_law.specs.Seen.{result_of, E, W}
-use Rattle.recovery.specs.Recovered.{IsRecovered, tx_in}
-use Rattle.recovery.specs.declared.answer.RecoverAnswer.{RecoverAnswer}
-use Rattle.recovery.specs.declared.answer.RecoverAnswer.TheVariants as recovered
+use Rattle.recovery.specs.Recovered.{tx_in}
 use Rattle.cut_law.specs.Law.{call_of, pool_with}
 use Rattle.abort_law.specs.Owing.{IsOwed}
 use Rattle.abort_law.proofs.Owing.{any_last}
@@ -33,13 +31,14 @@ use Rattle.abort_law.specs.Cuts.{IsMarkedCut, IsMarkedLeft}
 use Rattle.cnvm_script.specs.declared.command.Command.TheVariants as command
 use Rattle.cnvm_session.specs.declared.mode.Mode.{Mode}
 use Rattle.cnvm_session.specs.declared.mode.Mode.TheVariants as mode
+use Rattle.cnvm_session.specs.declared.answer.Answer.{Answer}
 use Rattle.cnvm_session.specs.declared.answer.Answer.TheVariants as answer
 use Rattle.cnvm_session.specs.declared.program.Program.{Program}
 use Rattle.cnvm_session.specs.Marks.{rolls_back_of}
 use Rattle.cnvm_session.specs.Commands as commanded
 use Rattle.cnvm_session.specs.Commands.{fallen}
 use Rattle.cnvm_session.specs.Opening.{opening_events}
-use Rattle.cnvm_session.specs.Outcomes.{answer_of_recovery, RecoversBy}
+use Rattle.cnvm_session.specs.Outcomes.{RecoversBy}
 use Rattle.cnvm_session.specs.Outcomes as outcomes
 use Rattle.cnvm_session.specs.Pool.{sizes_of}
 use Rattle.session_law.specs.Agrees.{Agrees}
@@ -51,52 +50,37 @@ use Rattle.session_law.specs.Ran.{Moment, SessionStep}
 use Rattle.session_law.specs.Law.{HasPhase, RecoveryPhaseLaw}
 use Rattle.session_law.proofs.Ones.{at_view, left_rest}
 use Rattle.session_law.proofs.Reading.{is_marked, is_owed}
-use Rattle.session_law.proofs.Recoveries.{redo_seal}
+use Rattle.session_law.proofs.Recoveries.{redo_keeps_seal}
 use Rattle.session_law.proofs.MarkedRecoveries.{KeepsLast, marked_redo_left}
 use Rattle.session_law.proofs.Powers.{HeldAs, owing_as, left_held}
 use Rattle.cnvm_session.proofs.Writing.{written_rest, written_word}
 use Rattle.session_law.proofs.Opening.{opened_held}
 use Rattle.session_law.proofs.Histories.{finished_counts}
 
-off_of : (r : RecoverAnswer) (at : Phase) → answer.Stopped at ≡ answer_of_recovery r
-    → r ≡ recovered.Off at
-off_of recovered.Clean at e = absurd cc
-off_of (recovered.Redone v l) at e = absurd cc
-off_of (recovered.Trap kind) at e = absurd cc
-off_of (recovered.Unusable kind) at e = absurd cc
-off_of recovered.Numbers at e = absurd cc
-off_of (recovered.Off p) at e = let same : at ≡ p = cc in ap recovered.Off (sym same)
-off_of recovered.Failed at e = absurd cc
-off_of recovered.NoMemory at e = absurd cc
-
 module _ (program : Program) (super : Words) (agrees : Agrees program)
     (e : Device) (s : SourceState) (on : e.on ≡ true) (rest : IsAtRest e.cache)
-    (at : Phase) (n : Mode) (b : Device) (k k1 : ℕ)
-    (is : outcomes.Recovers program e (answer.Stopped at) n b k k1) where
+    (a : Answer) (n : Mode) (b : Device) (k k1 : ℕ)
+    (is : outcomes.Recovers program e a n b k k1) where
   abbrev one : Words
   one = view e.cache
 
   abbrev pool : Pool
   pool = pool_with program.image super
 
-  -- the transaction is owed in the image that is recovered
-  module _ (owed : Pending) (mark : one MARK ≡ pos 0) (done : one DONE ≡ pos s.done)
-      (seal : HasSeal s one) (phase_is : at ≡ phase.Sealed) where
+  -- The transaction is owed in the image that is recovered: whatever the recovery answers, each
+  -- image still has the seal.
+  module _ (owed : Pending) (mark : one MARK ≡ pos 0)
+      (not_done : one DONE ≡ pos (suc s.done) → ⊥) (seal : HasSeal s one) where
     abbrev call : Call
     call = call_of s.done owed.tx owed.args
 
     abbrev Sealed : Type 0
     Sealed = Images (HasSeal s) b.cache
 
-    not_done : one DONE ≡ pos (suc s.done) → ⊥
-    not_done more =
-        let same : suc s.done ≡ s.done = pos_inj (suc s.done) s.done (sym more ∙ done) in
-        absurd (omega arith)
-
-    recovers_by : (marked : Bool) → tx_in e ≡ owed.tx → rolls_back_of program owed.tx ≡ marked
-        → RecoversBy marked program.image e (answer.Stopped at) n b k k1
-    recovers_by marked names marks =
-        subst (λ (x : Bool). RecoversBy x program.image e (answer.Stopped at) n b k k1)
+    recovers_by : (marked : Bool) → one DONE ≡ pos s.done → tx_in e ≡ owed.tx
+        → rolls_back_of program owed.tx ≡ marked → RecoversBy marked program.image e a n b k k1
+    recovers_by marked done names marks =
+        subst (λ (x : Bool). RecoversBy x program.image e a n b k k1)
         (owing_as program e owed.tx marked (is_owed one s.done done seal) names marks) is
 
     module _ (unmarked : rolls_back_of program owed.tx ≡ false)
@@ -111,12 +95,10 @@ module _ (program : Program) (super : Words) (agrees : Agrees program)
       at_cut (inl before) = absurd (before.good.unsealed seal)
       at_cut (inr (inl sealed)) =
           let names : tx_in e ≡ owed.tx = ap tx_number (sealed.call_is 0 (omega arith)) in
-          let un = recovers_by false names unmarked in
-          let off : un.tx_answer ≡ recovered.Off phase.Sealed =
-          off_of un.tx_answer at un.answer ∙ ap recovered.Off phase_is in
-          redo_seal program super agrees e s owed owes.heap owes.end owes.effects on rest
-          owes.holds owes.takes owes.words owes.ran unmarked sealed b k k1
-          (subst (λ (x : RecoverAnswer). IsRecovered x program.image e b k k1) off un.recovered)
+          let un = recovers_by false sealed.done names unmarked in
+          redo_keeps_seal program super agrees e s owed owes.heap owes.end owes.effects on rest
+          owes.holds owes.takes owes.words owes.ran unmarked sealed un.tx_answer b k k1
+          un.recovered
       at_cut (inr (inr ended)) = absurd (not_ended owes.end ended)
 
       from_unmarked : Sealed
@@ -136,7 +118,7 @@ module _ (program : Program) (super : Words) (agrees : Agrees program)
       owed_at : IsOwed pool call owes.heap one → KeepsLast owes.end s.last one → Sealed
       owed_at sealed kept =
           let names : tx_in e ≡ owed.tx = ap tx_number (sealed.call_is 0 (omega arith)) in
-          let ma = recovers_by true names marked in
+          let ma = recovers_by true sealed.done names marked in
           λ image among. of_left owes.end image
           (marked_redo_left program super agrees e s owed owes.heap owes.end owes.effects on rest
           owes.holds owes.takes owes.words owes.ran marked sealed kept ma.tx_answer b k k1
@@ -160,13 +142,20 @@ module _ (program : Program) (super : Words) (agrees : Agrees program)
           (at_view (IsMarkedCut pool call owes.heap (heap_end owes.heap owes.effects) s.last
           owes.end) e.cache owes.left)
 
-    from_owed : (marks : Bool) → rolls_back_of program owed.tx ≡ marks
+    pub from_owed : (marks : Bool) → rolls_back_of program owed.tx ≡ marks
         → OwesBy marks program super owed e s → Sealed
     from_owed false marks owes = from_unmarked marks owes
     from_owed true marks owes = from_marked marks owes
 
-  module _ (t found : SourceState) (mark : one MARK ≡ pos 0)
-      (finds : FindsOwed s.standing program s one found)
+module _ (program : Program) (super : Words) (agrees : Agrees program)
+    (e : Device) (s : SourceState) (on : e.on ≡ true) (rest : IsAtRest e.cache)
+    (at : Phase) (n : Mode) (b : Device) (k k1 : ℕ)
+    (is : outcomes.Recovers program e (answer.Stopped at) n b k k1) where
+  abbrev found_image : Words
+  found_image = view e.cache
+
+  module _ (t found : SourceState) (mark : found_image MARK ≡ pos 0)
+      (finds : FindsOwed s.standing program s found_image found)
       (held : HeldAs s.standing program super e s) (holds : Holds program super n b t) where
     abbrev Shown : Type 0
     Shown = Images (HasPhase at t) b.cache
@@ -185,7 +174,12 @@ module _ (program : Program) (super : Words) (agrees : Agrees program)
       not_none none =
           let clash : Down (Some pending) ≡ Down None = sym standing ∙ none in absurd cc
 
-      by_standing : (st : Standing) → FindsOwed st program s one found
+      not_counted : found_image DONE ≡ pos s.done → found_image DONE ≡ pos (suc s.done) → ⊥
+      not_counted done more =
+          let same : suc s.done ≡ s.done = pos_inj (suc s.done) s.done (sym more ∙ done) in
+          absurd (omega arith)
+
+      by_standing : (st : Standing) → FindsOwed st program s found_image found
           → HeldAs st program super e s → Shown
       by_standing Ready is_found is_held =
           absurd (not_none (ap (λ (x : SourceState). x.standing) is_found))
@@ -198,15 +192,15 @@ module _ (program : Program) (super : Words) (agrees : Agrees program)
           (Down None) retired.2).1)
       by_standing (Down (Some owed)) (inr (inr sealed)) is_held =
           let images : Images (HasSeal s) b.cache =
-          from_owed owed mark sealed.1 sealed.0 phase_is (rolls_back_of program owed.tx) refl
-          is_held in
+          from_owed program super agrees e s on rest (answer.Stopped at) n b k k1 is owed mark
+          (not_counted sealed.1) sealed.0 (rolls_back_of program owed.tx) refl is_held in
           subst (λ (x : Phase). Images (HasPhase x t) b.cache) (sym phase_is)
           (λ image among. images image among
           ∙ ap (λ (x : SourceState). pos (suc x.done)) (sym (same ∙ sealed.2)))
       by_standing (Unusable kind) is_found is_held = absurd is_found
 
     by_found : (st : Standing) → found.standing ≡ st
-        → Recovers st program found one (answer.Stopped at) t → Shown
+        → Recovers st program found found_image (answer.Stopped at) t → Shown
     by_found Ready standing recovers = absurd recovers
     by_found (Down None) standing recovers =
         unsealed recovers.0 (ap (λ (x : SourceState). x.standing) recovers.1 ∙ standing)
@@ -214,7 +208,7 @@ module _ (program : Program) (super : Words) (agrees : Agrees program)
         by_standing pending standing recovers.0 recovers.1 s.standing finds held
     by_found (Unusable kind) standing recovers = absurd recovers
 
-  pub shows_phase : (t : SourceState) → Powers program s one (answer.Stopped at) t
+  pub shows_phase : (t : SourceState) → Powers program s found_image (answer.Stopped at) t
       → HeldAs s.standing program super e s → Holds program super n b t
       → Images (HasPhase at t) b.cache
   shows_phase t powers held holds =

@@ -148,6 +148,10 @@ meaning_words (word ∷ others) =
     (option_map (λ (c : Command). Some c) (command word others)) tt
     (found_words (command word others) (command_words word others))
 
+pub line_words : (line : List ℕ)
+    → IfSome (line_meaning line) (λ (o : Option Command). IfSome o IsWordCommand)
+line_words line = meaning_words (line_of.words_of_line line)
+
 abbrev AreAll : List Command → Type 0
 AreAll commands = AllByRecursion IsWordCommand commands
 
@@ -166,7 +170,7 @@ joined_words n (Some (Some c)) (Err bad) is all = tt
 from_words : (n : ℕ) (ls : List (List ℕ)) → HasAll (commands_from n ls)
 from_words n [] = tt
 from_words n (line ∷ ls) = joined_words n (line_meaning line) (commands_from (n + 1) ls)
-    (meaning_words (line_of.words_of_line line)) (from_words (n + 1) ls)
+    (line_words line) (from_words (n + 1) ls)
 
 pub script_words : ScriptLaw
 script_words text commands is = subst HasAll is (from_words 1 (lines text))

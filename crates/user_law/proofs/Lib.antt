@@ -1,0 +1,10 @@
+pub mod Cases
+pub mod Moving
+pub mod Staying
+pub mod Keeping
+pub mod Counting
+pub mod Playing
+pub mod Meaning
+pub mod Sealing
+pub mod Owing
+pub mod Stepping

@@ -1,0 +1,10 @@
+pub mod Source
+pub mod State
+pub mod Answers
+pub mod History
+pub mod Played
+pub mod Keeps
+pub mod Ran
+pub mod Run
+pub mod Seen
+pub mod Stays

@@ -1,0 +1,42 @@
+-- What a user sees of the device: a list of stores, flushes and fences, which is played on cache
+-- lines; where it is cut; and the most events that a command may have.
+use Rattle.std.specs.Prelude.{ℕ, ◌+◌, ◌*◌, ◌≡◌, ◌⊎◌, List}
+use Rattle.cache_model.specs.Event.{CacheEvent}
+use Rattle.pmem.specs.Device.{Device, powered, with_left, with_armed}
+use Rattle.pmem.specs.Played.{PlaysAll, PlaysPart}
+use Rattle.pmem.specs.declared.answer.Refusal.TheVariants as refusal
+use Rattle.codegen.specs.Emit.{most_steps}
+use Rattle.cnvm_script.specs.declared.command.Command.{Command}
+use Rattle.cnvm_script.specs.declared.command.Command.TheVariants as command
+use Rattle.cnvm_session.specs.declared.answer.Answer.{Answer}
+use Rattle.cnvm_session.specs.declared.answer.Answer.TheVariants as answer
+use Rattle.user_law.specs.Source.{Source}
+
+-- the device on which a command's events are played: a cut leaves one version of each line, and
+-- `stop` and `fault` say when the power goes or the device fails
+abbrev pub prepared : Command → Answer → Device → Device
+prepared (command.Power choice) (answer.RefusedPick line) d = d
+prepared (command.Power choice) a d = powered choice d
+prepared (command.Stop left) a d = with_left left d
+prepared (command.Fault at) a d = with_armed at d
+prepared c a d = d
+
+-- All events are played where a transaction or a recovery came to its end; some first ones where
+-- the power went, the device failed, or memory was wanting at the next; none else.
+abbrev pub PlaysAs : Answer → Device → List CacheEvent → Device → Type 0
+PlaysAs (answer.Done value logged) d es b = PlaysAll d es b
+PlaysAs (answer.Trap kind) d es b = PlaysAll d es b
+PlaysAs (answer.Aborted kind) d es b = PlaysAll d es b
+PlaysAs answer.RecoveredNone d es b = PlaysAll d es b
+PlaysAs (answer.RecoveredRedone value logged) d es b = PlaysAll d es b
+PlaysAs (answer.RecoveredTrap kind) d es b = PlaysAll d es b
+PlaysAs (answer.RecoveredAborted kind) d es b = PlaysAll d es b
+PlaysAs (answer.Stopped at) d es b = PlaysPart refusal.Off d es b
+PlaysAs answer.DeviceFault d es b = PlaysPart refusal.Failed d es b
+PlaysAs answer.NoMemory d es b = (b ≡ d) ⊎ PlaysPart refusal.NoMemory d es b
+PlaysAs a d es b = b ≡ d
+
+-- The most events of a command: ten for each step of the longest run, four for each log record, and
+-- those of the seal and of the end.
+abbrev pub events_bound : Source → ℕ
+events_bound p = 10 * most_steps p.sizes p.tokens + 4 * p.sizes.records + 64

@@ -1,0 +1,30 @@
+//! What a user of a program may believe: a session as a chain of steps that names the language,
+//! scripts and answers, the pool as the source sees it, and of the device only cache lines, the
+//! number of events, the counts and the seal. It stands on `session_law`. Its one contract: the
+//! laws of `specs/`, each a clause of a function that does nothing.
+#![tactic(auto)]
+
+ghost use Rattle.user_law.specs.Stays.{StaysLaw, UserWholeLaw, UserKeptLaw, HeadLaw, RunHeadLaw};
+ghost use Rattle.user_law.specs.Seen.{KeepsLaw, PlayedLaw, MeantLaw, SealKeptLaw, StepLaw, RanLaw};
+
+/// Of each chain, whatever the device and the machine are: once an image had the seal of a call,
+/// the history of each later moment that takes calls has the call, over any number of cuts and
+/// faults; and the pool is the one to which the history leads. It does nothing.
+pub fn chain_law()
+    ensures stays { StaysLaw }
+    ensures whole { UserWholeLaw }
+    ensures kept { UserKeptLaw }
+    ensures head { HeadLaw }
+    ensures run { RunHeadLaw }
+{}
+
+/// Each step of a session of the machine is one of the user's, and so is each session. It does
+/// nothing.
+pub fn seen_law()
+    ensures keeps { KeepsLaw }
+    ensures played { PlayedLaw }
+    ensures meant { MeantLaw }
+    ensures seal { SealKeptLaw }
+    ensures step { StepLaw }
+    ensures ran { RanLaw }
+{}
