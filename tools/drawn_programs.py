@@ -66,7 +66,12 @@ class Drawn:
         if depth == 0:
             return self.value()
         left, right = self.expression(depth - 1), self.expression(depth - 1)
-        kind = self.chance.randrange(8)
+        kind = self.chance.randrange(10)
+        if kind == 9:
+            return f"({self.expression(depth - 1)} ? {left} : {right})"
+        if kind == 8:
+            other = f"{self.value()} ? {self.value()} : {self.expression(depth - 1)}"
+            return f"({left} ? {right} : {other})"
         if kind == 0:
             return f"({left} {self.chance.choice(['/', '%'])} (({right} & 255) + 1))"
         if kind == 1:
@@ -127,7 +132,10 @@ class Drawn:
             # A local, since C leaves open whether a field is read before or after the call.
             target = self.chance.choice(self.locals)
             update = self.chance.choice(UPDATES)
-            return [f"{target} {update} helper({self.value()}, {self.value()});"]
+            call = f"helper({self.value()}, {self.value()})"
+            if self.chance.randrange(2):
+                call = f"{self.value()} ? {call} : helper({self.value()}, {self.value()})"
+            return [f"{target} {update} {call};"]
         if kind == 6 and calls:
             return [f"root.head->v {self.chance.choice(UPDATES)} {self.expression(1)};",
                     f"{self.chance.choice(self.locals)} += root.head->v;"]

@@ -43,6 +43,8 @@ marks =
     (codes "!", mark.Not) ∷
     (codes "~", mark.Tilde) ∷
     (codes "=", mark.Assign) ∷
+    (codes "?", mark.Question) ∷
+    (codes ":", mark.Colon) ∷
     (codes ".", mark.Dot) ∷
     (codes ",", mark.Comma) ∷
     (codes ";", mark.Semicolon) ∷

@@ -8,7 +8,7 @@ ghost use Rattle.c_lexer.specs.Marks.{first_fit, mark_at};
 use crate::token::Mark;
 
 /// Longer marks come first, so that the first one that fits is the longest.
-const MARKS: [(&str, Mark); 43] = [
+const MARKS: [(&str, Mark); 45] = [
     ("<<=", Mark::ShiftLeftAssign),
     (">>=", Mark::ShiftRightAssign),
     ("->", Mark::Arrow),
@@ -43,6 +43,8 @@ const MARKS: [(&str, Mark); 43] = [
     ("!", Mark::Not),
     ("~", Mark::Tilde),
     ("=", Mark::Assign),
+    ("?", Mark::Question),
+    (":", Mark::Colon),
     (".", Mark::Dot),
     (",", Mark::Comma),
     (";", Mark::Semicolon),
@@ -75,6 +77,6 @@ pub(crate) fn longest_mark(left: &[u8]) -> Option<(usize, Mark)>
     ensures inside { IfSome result (λ found. found.0 ≤ length left.now) }
     ensures mark { result ≡ mark_at left.now }
 {
-    let table: [(&str, Mark); 43] = MARKS;
+    let table: [(&str, Mark); 45] = MARKS;
     first_fit(left, table.as_slice())
 }

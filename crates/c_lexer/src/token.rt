@@ -73,6 +73,10 @@ pub enum Mark {
     Tilde,
     /// `=`
     Assign,
+    /// `?`
+    Question,
+    /// `:`
+    Colon,
     /// `.`
     Dot,
     /// `,`

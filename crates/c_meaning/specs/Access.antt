@@ -84,6 +84,7 @@ word_named t ls p (expr.New place name) pointer index = Err trap.Stale
 word_named t ls p (expr.Index a place i) pointer index = Err trap.Stale
 word_named t ls p (expr.Unary op place a) pointer index = Err trap.Stale
 word_named t ls p (expr.Binary op place a b) pointer index = Err trap.Stale
+word_named t ls p (expr.Conditional c place a b) pointer index = Err trap.Stale
 
 -- the field of a target, which may be one of its elements
 abbrev pub target_field : ExprTree → ExprTree
@@ -97,6 +98,7 @@ target_field (expr.Call name all) = expr.Call name all
 target_field (expr.New place name) = expr.New place name
 target_field (expr.Unary op place a) = expr.Unary op place a
 target_field (expr.Binary op place a b) = expr.Binary op place a b
+target_field (expr.Conditional c place a b) = expr.Conditional c place a b
 
 abbrev pub new_object : Tables → PoolMap → List ℕ → ℤ × PoolMap
 new_object t p name = option_map_or (λ i. new_at p (number_at t i) (words_at t i) (least_free p))

@@ -52,6 +52,7 @@ field_place (expr.New place name) = 0
 field_place (expr.Index a place i) = 0
 field_place (expr.Unary op place a) = 0
 field_place (expr.Binary op place a b) = 0
+field_place (expr.Conditional c place a b) = 0
 
 -- where a target traps: an element by its index at the `[`, and else as its field
 abbrev pub element_place : (place field : ℕ) → TrapKind → ℕ
@@ -75,6 +76,7 @@ target_place (expr.Call name all) kind = 0
 target_place (expr.New place name) kind = 0
 target_place (expr.Unary op place a) kind = 0
 target_place (expr.Binary op place a b) kind = 0
+target_place (expr.Conditional c place a b) kind = 0
 
 abbrev pub placed_trap : TrapKind → (place : ℕ) → TrapAt
 placed_trap kind place = record { kind = kind; place = place }
@@ -208,6 +210,10 @@ abbrev mutual
       then_do (value_of t calls a ls p k) (λ x p k. Got (unary_of op x) p k)
   value_of t calls (expr.Binary op place a b) ls p k =
       binary_means op place (value_of t calls a ls p k) (λ p k. value_of t calls b ls p k)
+  -- one side is evaluated, and not the other
+  value_of t calls (expr.Conditional c place a b) ls p k =
+      then_do (value_of t calls c ls p k)
+      (λ x p k. at_zero x (value_of t calls b ls p k) (value_of t calls a ls p k))
 
   -- the pointer that leads to a field; 0 for a field of the root
   pub pointer_of : Tables → Calls → ExprTree → List Local → PoolMap → ℕ → Out ℤ
@@ -221,6 +227,7 @@ abbrev mutual
   pointer_of t calls (expr.Index a place i) ls p k = Got (pos 0) p k
   pointer_of t calls (expr.Unary op place a) ls p k = Got (pos 0) p k
   pointer_of t calls (expr.Binary op place a b) ls p k = Got (pos 0) p k
+  pointer_of t calls (expr.Conditional c place a b) ls p k = Got (pos 0) p k
 
   -- arguments, from left to right
   pub values_of : Tables → Calls → Arguments → List Local → PoolMap → ℕ → Out (List ℤ)
@@ -244,6 +251,7 @@ operands_of t calls (expr.Call name all) ls p k = Got (pos 0, None) p k
 operands_of t calls (expr.New place name) ls p k = Got (pos 0, None) p k
 operands_of t calls (expr.Unary op place a) ls p k = Got (pos 0, None) p k
 operands_of t calls (expr.Binary op place a b) ls p k = Got (pos 0, None) p k
+operands_of t calls (expr.Conditional c place a b) ls p k = Got (pos 0, None) p k
 
 -- the checks, and then the store
 abbrev pub stored_end : Result PoolWord TrapAt → ℤ → List Local → PoolMap → ℕ → StmtEnd
@@ -286,6 +294,7 @@ target_local (expr.Arrow base place name) = None
 target_local (expr.Index a place i) = None
 target_local (expr.Unary op place a) = None
 target_local (expr.Binary op place a b) = None
+target_local (expr.Conditional c place a b) = None
 
 abbrev pub freed : Result PoolMap TrapAt → List Local → ℕ → StmtEnd
 freed (Ok p) ls k = Next ls p k

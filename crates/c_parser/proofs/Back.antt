@@ -16,7 +16,8 @@ use Rattle.c_tree.specs.declared.stmt.AssignOp.TheVariants as assign
 use Rattle.c_tree.specs.declared.kind.Kind.{Kind}
 use Rattle.c_tree.specs.declared.kind.Kind.TheVariants as kind
 use Rattle.c_parser.specs.declared.want.Want.{Want}
-use Rattle.c_parser.specs.declared.want.Want.TheVariants.{Operand, Rest, Named, Dot, FirstArgument}
+use Rattle.c_parser.specs.declared.want.Want.TheVariants.{Operand, Rest, Named, Dot, Colon}
+use Rattle.c_parser.specs.declared.want.Want.TheVariants.{FirstArgument}
 use Rattle.c_parser.specs.declared.want.Want.TheVariants.{MoreArguments, NewOpen, Ident, Digits}
 use Rattle.c_parser.specs.declared.want.Want.TheVariants.{Semicolon, StructWord, Star, RootWord}
 use Rattle.c_parser.specs.declared.want.Want.TheVariants.{WhileWord, Round, Square, Target}
@@ -37,7 +38,8 @@ use Rattle.c_tree.specs.StmtTree.{Statements}
 use Rattle.c_tree.specs.StmtTree as tree
 use Rattle.c_tree.specs.ItemTree.{FieldTree, ParameterTree, ItemTree}
 use Rattle.c_tree.specs.ItemTree as itree
-use Rattle.c_tree.specs.Spelling.{Level, postfix, Parts, parts_end, field, element, Primary, number}
+use Rattle.c_tree.specs.Spelling.{Expression, postfix, Parts, parts_end, field, element, Primary}
+use Rattle.c_tree.specs.Spelling.{number}
 use Rattle.c_tree.specs.Spelling.{null, variable, call, root, new, brackets, SpellsArguments}
 use Rattle.c_tree.specs.StmtSpelling.{Typed, int, pointer, Declares, plain, initial, Bracketed}
 use Rattle.c_tree.specs.StmtSpelling.{bracketed, Acts, assigns, steps, Simply, acts, calls, frees}
@@ -58,7 +60,8 @@ use Rattle.c_parser.specs.inside.Wants.{apply_move, move, parser_step}
 use Rattle.c_parser.specs.inside.Run.{Accepted, ends, parse_on, parse_run}
 use Rattle.c_parser.proofs.Steps.{IsToken, run_at, at_token, present}
 use Rattle.c_parser.proofs.Flat.{Flat, f_number, f_null, f_name, f_root, f_new, f_sign, f_round}
-use Rattle.c_parser.proofs.Flat.{Tail, f_end, f_operator, f_field, f_index, AfterName, f_plain}
+use Rattle.c_parser.proofs.Flat.{Tail, f_end, f_operator, f_field, f_index, f_sides, AfterName}
+use Rattle.c_parser.proofs.Flat.{f_plain}
 use Rattle.c_parser.proofs.Flat.{f_call, FirstOf, f_none, f_some, OthersOf, f_close, f_comma}
 use Rattle.c_parser.proofs.Flat.{flat_tree, first_tree}
 
@@ -98,6 +101,8 @@ mark_token mark.Or = tt
 mark_token mark.Not = tt
 mark_token mark.Tilde = tt
 mark_token mark.Assign = tt
+mark_token mark.Question = tt
+mark_token mark.Colon = tt
 mark_token mark.Dot = tt
 mark_token mark.Comma = tt
 mark_token mark.Semicolon = tt
@@ -158,6 +163,7 @@ module _ (ts : List Placed) where
   Stands i (Named n ∷ k) = (j : ℕ) × AfterName ts i j × Stands j k
   Stands i (Dot n ∷ k) = (kind_at ts i ≡ kind.Dot) × (kind_at ts (i + 1) ≡ kind.Name) × (j : ℕ)
       × Tail ts (i + 1 + 1) j × Stands j k
+  Stands i (Colon n ∷ k) = (kind_at ts i ≡ kind.Colon) × (j : ℕ) × Flat ts (i + 1) j × Stands j k
   Stands i (FirstArgument ∷ k) = (j : ℕ) × FirstOf ts i j × Stands j k
   Stands i (MoreArguments ∷ k) = (j : ℕ) × OthersOf ts i j × Stands j k
   Stands i (NewOpen ∷ k) =
@@ -185,8 +191,8 @@ module _ (ts : List Placed) where
   Stands i (OpenNothing ∷ k) = (kind_at ts i ≡ kind.OpenRound)
       × (kind_at ts (i + 1) ≡ kind.CloseRound) × Stands (i + 1 + 1) k
   Stands i (Initial ∷ k) =
-      ((kind_at ts i ≡ kind.Assign assign.Set) × (j : ℕ) × (e : ExprTree) × Level ts 10 (i + 1) j e
-      × Stands j k) ⊎ Stands i k
+      ((kind_at ts i ≡ kind.Assign assign.Set) × (j : ℕ) × (e : ExprTree)
+      × Expression ts (i + 1) j e × Stands j k) ⊎ Stands i k
   Stands i (Value ∷ k) = (j : ℕ) × (v : Option ExprTree) × ValuePart ts i j v × Stands j k
   Stands i (Body loop ∷ k) = (j : ℕ) × (s : StmtTree) × Spells ts loop i j s × Stands j k
   Stands i (Bare ∷ k) = Stands i k
@@ -261,6 +267,7 @@ module _ (ts : List Placed) where
     rest_back n k (kind.Operator o) is other (j, f, st) = (j, f_operator o is f, st)
     rest_back n k kind.Arrow is other (nm, (j, tail, st)) = (j, f_field is nm tail, st)
     rest_back n k kind.OpenSquare is other (m, f, (c, (j, tail, st))) = (j, f_index is f c tail, st)
+    rest_back n k kind.Question is other (m, f, (c, j, g, st)) = (j, f_sides is f c g, st)
     rest_back n k _ is other h = (i, f_end, other h)
 
     named_back : (n : ℕ) (k : List Want) (t : Kind) → kind_at ts i ≡ t
@@ -328,6 +335,11 @@ module _ (ts : List Placed) where
         → Then (i + 1) (apply_move (wants.dot n t) k u) → Stands i (Dot n ∷ k)
     dot_back n k kind.Dot is u (nm, (j, tail, st)) = (is, nm, j, tail, st)
     dot_back n k _ is u h = absurd h
+
+    colon_back : (n : ℕ) (k : List Want) (t : Kind) → kind_at ts i ≡ t → (u : Option (List Want))
+        → Then (i + 1) (apply_move (wants.colon n t) k u) → Stands i (Colon n ∷ k)
+    colon_back n k kind.Colon is u (j, f, st) = (is, j, f, st)
+    colon_back n k _ is u h = absurd h
 
     first_back : (k : List Want) (t : Kind) → kind_at ts i ≡ t → (u : Option (List Want))
         → Then (i + 1) (apply_move (wants.first_argument t) k u) → (j : ℕ) × FirstOf ts i j
@@ -909,6 +921,7 @@ module _ (ts : List Placed) where
     back (Rest n ∷ k) t is token h = rest_back i n k t is (λ g. back k t is token g) h
     back (Named n ∷ k) t is token h = named_back i n k t is (λ g. back k t is token g) h
     back (Dot n ∷ k) t is token h = dot_back i n k t is (parser_step k t) h
+    back (Colon n ∷ k) t is token h = colon_back i n k t is (parser_step k t) h
     back (FirstArgument ∷ k) t is token h = first_back i k t is (parser_step k t) h
     back (MoreArguments ∷ k) t is token h = more_back i k t is (parser_step k t) h
     back (NewOpen ∷ k) t is token h = new_back i k t is (parser_step k t) h
@@ -968,6 +981,7 @@ module _ (ts : List Placed) where
   at_last (Items ∷ k) h = ([], items_end)
   at_last (Operand n ∷ k) h = absurd h
   at_last (Dot n ∷ k) h = absurd h
+  at_last (Colon n ∷ k) h = absurd h
   at_last (FirstArgument ∷ k) h = absurd h
   at_last (MoreArguments ∷ k) h = absurd h
   at_last (NewOpen ∷ k) h = absurd h

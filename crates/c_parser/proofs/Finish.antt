@@ -13,7 +13,8 @@ use Rattle.c_tree.specs.declared.stmt.AssignOp.TheVariants as assign
 use Rattle.c_tree.specs.declared.kind.Kind.{Kind}
 use Rattle.c_tree.specs.declared.kind.Kind.TheVariants as kind
 use Rattle.c_parser.specs.declared.want.Want.{Want}
-use Rattle.c_parser.specs.declared.want.Want.TheVariants.{Operand, Rest, Named, Dot, FirstArgument}
+use Rattle.c_parser.specs.declared.want.Want.TheVariants.{Operand, Rest, Named, Dot, Colon}
+use Rattle.c_parser.specs.declared.want.Want.TheVariants.{FirstArgument}
 use Rattle.c_parser.specs.declared.want.Want.TheVariants.{MoreArguments, NewOpen, Ident, Digits}
 use Rattle.c_parser.specs.declared.want.Want.TheVariants.{Semicolon, StructWord, Star, RootWord}
 use Rattle.c_parser.specs.declared.want.Want.TheVariants.{WhileWord, Round, Square, Target}
@@ -36,6 +37,7 @@ IsCloser (Round ∷ k) = Unit {0}
 IsCloser (Square ∷ k) = Unit {0}
 IsCloser (MoreArguments ∷ k) = Unit {0}
 IsCloser (Semicolon ∷ k) = Unit {0}
+IsCloser (Colon n ∷ k) = Unit {0}
 IsCloser _ = ⊥
 
 -- the wants that may be below a want
@@ -44,6 +46,7 @@ Follows (Operand n) k = IsCloser k
 Follows (Rest n) k = IsCloser k
 Follows (Named n) k = IsCloser k
 Follows (Dot n) k = IsCloser k
+Follows (Colon n) k = IsCloser k
 Follows (Target n) k = IsCloser k
 Follows NamedTarget k = IsCloser k
 Follows Called k = IsCloser k
@@ -83,6 +86,7 @@ rest_fine : (n : ℕ) (k : List Want) (t : Kind) (u : Option (List Want)) → Is
 rest_fine n k (kind.Operator o) u c f g = (c, f)
 rest_fine n k kind.Arrow u c f g = (tt, (c, f))
 rest_fine n k kind.OpenSquare u c f g = (tt, (tt, (c, f)))
+rest_fine n k kind.Question u c f g = (tt, (c, f))
 rest_fine n k _ u c f g = g
 
 named_fine : (n : ℕ) (k : List Want) (t : Kind) (u : Option (List Want)) → IsCloser k → Fine k
@@ -91,12 +95,18 @@ named_fine n k kind.OpenRound u c f g = (tt, (c, f))
 named_fine n k (kind.Operator o) u c f g = (c, f)
 named_fine n k kind.Arrow u c f g = (tt, (c, f))
 named_fine n k kind.OpenSquare u c f g = (tt, (tt, (c, f)))
+named_fine n k kind.Question u c f g = (tt, (c, f))
 named_fine n k _ u c f g = g
 
 dot_fine : (n : ℕ) (k : List Want) (t : Kind) (u : Option (List Want)) → IsCloser k → Fine k
     → IfFine (apply_move (wants.dot n t) k u)
 dot_fine n k kind.Dot u c f = (tt, (c, f))
 dot_fine n k _ u c f = tt
+
+colon_fine : (n : ℕ) (k : List Want) (t : Kind) (u : Option (List Want)) → IsCloser k → Fine k
+    → IfFine (apply_move (wants.colon n t) k u)
+colon_fine n k kind.Colon u c f = (c, f)
+colon_fine n k _ u c f = tt
 
 first_fine : (k : List Want) (t : Kind) (u : Option (List Want)) → Fine k
     → IfFine (apply_move (wants.first_argument t) k u)
@@ -394,6 +404,7 @@ step_fine (Operand n ∷ k) t f = operand_fine n k t (parser_step k t) f.0 f.1
 step_fine (Rest n ∷ k) t f = rest_fine n k t (parser_step k t) f.0 f.1 (step_fine k t f.1)
 step_fine (Named n ∷ k) t f = named_fine n k t (parser_step k t) f.0 f.1 (step_fine k t f.1)
 step_fine (Dot n ∷ k) t f = dot_fine n k t (parser_step k t) f.0 f.1
+step_fine (Colon n ∷ k) t f = colon_fine n k t (parser_step k t) f.0 f.1
 step_fine (FirstArgument ∷ k) t f = first_fine k t (parser_step k t) f.1
 step_fine (MoreArguments ∷ k) t f = more_fine k t (parser_step k t) f.1
 step_fine (NewOpen ∷ k) t f = new_fine k t (parser_step k t) f.1
@@ -453,6 +464,7 @@ finish (Operand n ∷ k) = digits ∷ finish k
 finish (Rest n ∷ k) = finish k
 finish (Named n ∷ k) = finish k
 finish (Dot n ∷ k) = m mark.Dot ∷ name ∷ finish k
+finish (Colon n ∷ k) = m mark.Colon ∷ digits ∷ finish k
 finish (FirstArgument ∷ k) = m mark.CloseRound ∷ finish k
 finish (MoreArguments ∷ k) = m mark.CloseRound ∷ finish k
 finish (NewOpen ∷ k) = m mark.OpenRound ∷ w word.Struct ∷ name ∷ m mark.CloseRound ∷ finish k
@@ -496,21 +508,25 @@ finish (Items ∷ k) = []
 
 -- a want that may stay unmet, before the end of an expression
 unmet : (x : Want) → move x kind.CloseRound ≡ Yield → move x kind.CloseSquare ≡ Yield
-    → move x kind.Semicolon ≡ Yield → (k : List Want) (p : ℕ) → IsCloser k
+    → move x kind.Semicolon ≡ Yield → move x kind.Colon ≡ Yield → (k : List Want) (p : ℕ)
+    → IsCloser k
     → run_from None (finish k) p (x ∷ k) ≡ run_from None (finish k) p k
-unmet x a b c (Round ∷ k) p h =
+unmet x a b c d (Round ∷ k) p h =
     ap (λ y. parse_on None p (apply_move y (Round ∷ k) (Some k))
     (λ s. run_from None (finish k) (p + 1) s)) a
-unmet x a b c (MoreArguments ∷ k) p h =
+unmet x a b c d (MoreArguments ∷ k) p h =
     ap (λ y. parse_on None p (apply_move y (MoreArguments ∷ k) (Some k))
     (λ s. run_from None (finish k) (p + 1) s)) a
-unmet x a b c (Square ∷ k) p h =
+unmet x a b c d (Square ∷ k) p h =
     ap (λ y. parse_on None p (apply_move y (Square ∷ k) (Some k))
     (λ s. run_from None (finish k) (p + 1) s)) b
-unmet x a b c (Semicolon ∷ k) p h =
+unmet x a b c d (Semicolon ∷ k) p h =
     ap (λ y. parse_on None p (apply_move y (Semicolon ∷ k) (Some k))
     (λ s. run_from None (finish k) (p + 1) s)) c
-unmet x a b c _ p h = absurd h
+unmet x a b c d (Colon n ∷ k) p h =
+    ap (λ y. parse_on None p (apply_move y (Colon n ∷ k) (Some (Operand n ∷ k)))
+    (λ s. run_from None (digits ∷ finish k) (p + 1) s)) d
+unmet x a b c d _ p h = absurd h
 
 bare_ends : (xs : List Placed) (p : ℕ) (k : List Want)
     → run_from None xs p (Bare ∷ k) ≡ run_from None xs p k
@@ -527,6 +543,7 @@ finish_no_else (Operand n ∷ k) = λ h. cc
 finish_no_else (Rest n ∷ k) = finish_no_else k
 finish_no_else (Named n ∷ k) = finish_no_else k
 finish_no_else (Dot n ∷ k) = λ h. cc
+finish_no_else (Colon n ∷ k) = λ h. cc
 finish_no_else (FirstArgument ∷ k) = λ h. cc
 finish_no_else (MoreArguments ∷ k) = λ h. cc
 finish_no_else (NewOpen ∷ k) = λ h. cc
@@ -580,11 +597,13 @@ else_ends (x ∷ xs) loop p k h =
 
 pub finish_runs : (k : List Want) (p : ℕ) → Fine k → run_from None (finish k) p k ≡ Accepted
 finish_runs [] p f = refl
-finish_runs (Operand n ∷ k) p f = unmet (Rest n) refl refl refl k (p + 1) f.0
+finish_runs (Operand n ∷ k) p f = unmet (Rest n) refl refl refl refl k (p + 1) f.0
     ∙ finish_runs k (p + 1) f.1
-finish_runs (Rest n ∷ k) p f = unmet (Rest n) refl refl refl k p f.0 ∙ finish_runs k p f.1
-finish_runs (Named n ∷ k) p f = unmet (Named n) refl refl refl k p f.0 ∙ finish_runs k p f.1
-finish_runs (Dot n ∷ k) p f = unmet (Rest (n + 1)) refl refl refl k (p + 1 + 1) f.0
+finish_runs (Rest n ∷ k) p f = unmet (Rest n) refl refl refl refl k p f.0 ∙ finish_runs k p f.1
+finish_runs (Named n ∷ k) p f = unmet (Named n) refl refl refl refl k p f.0 ∙ finish_runs k p f.1
+finish_runs (Dot n ∷ k) p f = unmet (Rest (n + 1)) refl refl refl refl k (p + 1 + 1) f.0
+    ∙ finish_runs k (p + 1 + 1) f.1
+finish_runs (Colon n ∷ k) p f = unmet (Rest n) refl refl refl refl k (p + 1 + 1) f.0
     ∙ finish_runs k (p + 1 + 1) f.1
 finish_runs (FirstArgument ∷ k) p f = finish_runs k (p + 1) f.1
 finish_runs (MoreArguments ∷ k) p f = finish_runs k (p + 1) f.1
@@ -600,23 +619,23 @@ finish_runs (Round ∷ k) p f = finish_runs k (p + 1) f.1
 finish_runs (Square ∷ k) p f = finish_runs k (p + 1) f.1
 finish_runs (Target n ∷ k) p f = finish_runs k (p + 1) f.1
 finish_runs (NamedTarget ∷ k) p f = finish_runs k (p + 1) f.1
-finish_runs (Called ∷ k) p f = unmet Called refl refl refl k p f.0 ∙ finish_runs k p f.1
+finish_runs (Called ∷ k) p f = unmet Called refl refl refl refl k p f.0 ∙ finish_runs k p f.1
 finish_runs (DotTarget ∷ k) p f = finish_runs k (p + 1 + 1 + 1) f.1
 finish_runs (OpenExpression ∷ k) p f = finish_runs k (p + 1 + 1 + 1) f.1
 finish_runs (OpenNothing ∷ k) p f = finish_runs k (p + 1 + 1) f.1
-finish_runs (Initial ∷ k) p f = unmet Initial refl refl refl k p f.0 ∙ finish_runs k p f.1
-finish_runs (Value ∷ k) p f = unmet Value refl refl refl k p f.0 ∙ finish_runs k p f.1
+finish_runs (Initial ∷ k) p f = unmet Initial refl refl refl refl k p f.0 ∙ finish_runs k p f.1
+finish_runs (Value ∷ k) p f = unmet Value refl refl refl refl k p f.0 ∙ finish_runs k p f.1
 finish_runs (Body loop ∷ k) p f = finish_runs k (p + 1 + 1) f.1
 finish_runs (Bare ∷ k) p f = bare_ends (finish k) p k ∙ finish_runs k p f.1
 finish_runs (Else loop ∷ k) p f = else_ends (finish k) loop p k (finish_no_else k)
     ∙ finish_runs k p f.1
 finish_runs (Block loop ∷ k) p f = finish_runs k (p + 1) f.1
 finish_runs (OpenFor ∷ k) p f = finish_runs k (p + 1 + 1 + 1 + 1) f.1
-finish_runs (ForFirst ∷ k) p f = unmet ForFirst refl refl refl k p f.0 ∙ finish_runs k p f.1
-finish_runs (ForThird ∷ k) p f = unmet ForThird refl refl refl k p f.0 ∙ finish_runs k p f.1
+finish_runs (ForFirst ∷ k) p f = unmet ForFirst refl refl refl refl k p f.0 ∙ finish_runs k p f.1
+finish_runs (ForThird ∷ k) p f = unmet ForThird refl refl refl refl k p f.0 ∙ finish_runs k p f.1
 finish_runs (TypeName ∷ k) p f = finish_runs k (p + 1) f.1
 finish_runs (Fields ∷ k) p f = finish_runs k (p + 1) f.1
-finish_runs (Length ∷ k) p f = unmet Length refl refl refl k p f.0 ∙ finish_runs k p f.1
+finish_runs (Length ∷ k) p f = unmet Length refl refl refl refl k p f.0 ∙ finish_runs k p f.1
 finish_runs (Result ∷ k) p f = finish_runs k (p + 1) f.1
 finish_runs (TxResult ∷ k) p f = finish_runs k (p + 1) f.1
 finish_runs (OpenParameters ∷ k) p f = finish_runs k (p + 1 + 1) f.1

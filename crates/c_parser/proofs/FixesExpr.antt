@@ -14,14 +14,16 @@ use Rattle.c_tree.specs.Operators.{op_at, sign_of, level_of}
 use Rattle.c_tree.specs.ExprTree.{ExprTree, Ident, expr_of}
 use Rattle.c_tree.specs.ExprTree as tree
 use Rattle.c_tree.specs.inside.ExprTree as inside_tree
-use Rattle.c_tree.specs.Spelling.{Level, level_zero, level_suc, Chain, chain_end, chain_more, Unary}
-use Rattle.c_tree.specs.Spelling.{signed, unsigned, Postfix, postfix, Parts, parts_end, field}
+use Rattle.c_tree.specs.Spelling.{Expression, unconditional, conditional, Level, level_zero}
+use Rattle.c_tree.specs.Spelling.{level_suc, Chain, chain_end, chain_more, Unary, signed, unsigned}
+use Rattle.c_tree.specs.Spelling.{Postfix, postfix, Parts, parts_end, field}
 use Rattle.c_tree.specs.Spelling.{element, Primary, number, null, variable, call, root, new}
 use Rattle.c_tree.specs.Spelling.{brackets, SpellsArguments, no_arguments, arguments, MoreArguments}
 use Rattle.c_tree.specs.Spelling.{no_more, more}
 use Rattle.c_parser.specs.inside.Fixes.{Fixes, DerivesFrom, IsFollowed, Over, Uncalled}
+use Rattle.c_parser.specs.inside.Pieces.{FromCondition, sides}
 use Rattle.c_parser.proofs.Steps.{IsToken}
-use Rattle.c_parser.proofs.Forward.{Begins, level_begins}
+use Rattle.c_parser.proofs.Forward.{Begins, expression_begins}
 use Rattle.c_tree.proofs.Trees.{followed_by-nothing, followed_by-one_more, expr_of-Call}
 
 -- the place of a token is within the list
@@ -41,6 +43,7 @@ led P Q j e leads fixes = record { same = λ k t h. fixes.same k t (leads.on k t
 
 less_over : (l : ℕ) (k : Kind) → Over (suc l) k → Over l k
 less_over l (kind.Operator o) h = omega (arith, h)
+less_over l kind.Question h = omega (arith, h)
 less_over l kind.Arrow h = h
 less_over l kind.OpenSquare h = h
 less_over l kind.OpenRound h = h
@@ -173,6 +176,81 @@ chain_ends ts (suc l) i a P some leads is =
     ends chain_end not = (refl, refl)
     ends (chain_more o is b c) not = absurd (cc)
 
+-- a condition and both sides
+pub condition_alone : (ts : List Placed) (i m : ℕ) (c : ExprTree)
+    → Fixes (IsFollowed ts (Over 10) (Level ts 10 i)) m c → kind_at ts m ≢ kind.Question
+    → Fixes (IsFollowed ts (Over 11) (Expression ts i)) m c
+condition_alone ts i m c fixes not = record { same = λ k t h. taken h.spelled h.following }
+  where
+    taken : {k : ℕ} {t : ExprTree} → Expression ts i k t → Over 11 (kind_at ts k)
+        → (m ≡ k) × (c ≡ t)
+    taken {k} {t} (unconditional d) over = fixes.same k t (record {
+      spelled = d;
+      following = less_over 10 (kind_at ts k) over;
+    })
+    taken (conditional {m = q} {c = x} d is left colon right) over =
+        let f = fixes.same q x (record {
+          spelled = d;
+          following = over_at 10 (kind_at ts q) kind.Question is (omega arith);
+        }) in
+        absurd (not (ap (kind_at ts) f.0 ∙ is))
+
+pub condition_first : (ts : List Placed) (i m : ℕ) (c : ExprTree)
+    → Fixes (IsFollowed ts (Over 10) (Level ts 10 i)) m c → kind_at ts m ≡ kind.Question
+    → DerivesFrom (IsFollowed ts (Over 11) (Expression ts i))
+    (IsFollowed ts (Over 11) (FromCondition ts m c))
+condition_first ts i m c fixes is = record {
+  on = λ k t h.
+      record { spelled = taken h.spelled h.following; following = h.following };
+}
+  where
+    none : (q : ℕ) → m ≡ q → Over 11 (kind_at ts q) → ⊥
+    none q e over =
+        let h : 11 < 11 = subst (Over 11) (ap (kind_at ts) (sym e) ∙ is) over in omega (arith, h)
+
+    taken : {k : ℕ} {t : ExprTree} → Expression ts i k t → Over 11 (kind_at ts k)
+        → FromCondition ts m c k t
+    taken {k} {t} (unconditional d) over =
+        let f = fixes.same k t (record {
+          spelled = d;
+          following = less_over 10 (kind_at ts k) over;
+        }) in
+        absurd (none k f.0 over)
+    taken {k} {t} (conditional {m = q} {n = n} {c = x} {a = a} {b = b} d was left colon right)
+        over =
+        let f = fixes.same q x (record {
+          spelled = d;
+          following = over_at 10 (kind_at ts q) kind.Question was (omega arith);
+        }) in
+        subst (λ m. FromCondition ts m c k (tree.Conditional x q a b)) (sym f.0)
+        (subst (λ c. FromCondition ts q c k (tree.Conditional x q a b)) (sym f.1)
+        (sides was left colon right))
+
+pub both_sides : (ts : List Placed) (i p q r j : ℕ) (c a b x : ExprTree)
+    → kind_at ts i ≡ kind.Question → (i < length ts → p ≡ i + 1)
+    → Fixes (IsFollowed ts (Over 11) (Expression ts p)) q a → (q < length ts → r ≡ q + 1)
+    → Fixes (IsFollowed ts (Over 11) (Expression ts r)) j b → x ≡ tree.Conditional c i a b
+    → Fixes (IsFollowed ts (Over 11) (FromCondition ts i c)) j x
+both_sides ts i p q r j c a b x is to_p first to_r second e = record {
+  same = λ k t h. taken h.spelled h.following;
+}
+  where
+    taken : {k : ℕ} {t : ExprTree} → FromCondition ts i c k t → Over 11 (kind_at ts k)
+        → (j ≡ k) × (x ≡ t)
+    taken {k} (sides {n = n} {a = y} {b = z} was left colon right) over =
+        let here : p ≡ i + 1 = to_p (inside_at ts i kind.Question is tt) in
+        let f = first.same n y (record {
+          spelled = subst (λ p. Expression ts p n y) (sym here) left;
+          following = over_at 11 (kind_at ts n) kind.Colon colon tt;
+        }) in
+        let there : r ≡ n + 1 = subst (λ q. q < length ts → r ≡ q + 1) f.0 to_r
+        (inside_at ts n kind.Colon colon tt) in
+        let g = second.same k z (record {
+          spelled = subst (λ r. Expression ts r k z) (sym there) right;
+          following = over;
+        }) in
+        (g.0, e ∙ ap (λ a. tree.Conditional c i a b) f.1 ∙ ap (tree.Conditional c i y) g.1)
+
 -- the primaries, by their first token
 abbrev PrimaryOf : List Placed → ℕ → ℕ → ExprTree → Kind → Type 0
 PrimaryOf ts i k t kind.Number = (k ≡ i + 1) × (t ≡ tree.Number (value_at ts i))
@@ -189,7 +267,7 @@ PrimaryOf ts i k t kind.PmNew =
     × (kind_at ts (i + 1 + 1 + 1) ≡ kind.Name)
     × (kind_at ts (i + 1 + 1 + 1 + 1) ≡ kind.CloseRound) × (k ≡ i + 1 + 1 + 1 + 1 + 1)
     × (t ≡ tree.New i (ident_at ts (i + 1 + 1 + 1)))
-PrimaryOf ts i k t kind.OpenRound = (m : ℕ) × Level ts 10 (i + 1) m t
+PrimaryOf ts i k t kind.OpenRound = (m : ℕ) × Expression ts (i + 1) m t
     × (kind_at ts m ≡ kind.CloseRound) × (k ≡ m + 1)
 PrimaryOf ts i k t _ = ⊥
 
@@ -311,14 +389,14 @@ primary_new ts i n m o q j x y is to_n to_m to_o to_q to_j e f = record {
 -- from an opening bracket to the place after its closing one
 pub brackets_taken : (ts : List Placed) (i n m j : ℕ) (e : ExprTree) → kind_at ts i ≡ kind.OpenRound
     → (i < length ts → n ≡ i + 1)
-    → Fixes (IsFollowed ts (Over 10) (Level ts 10 n)) m e → (m < length ts → j ≡ m + 1)
-    → (k q : ℕ) (t : ExprTree) → Level ts 10 (i + 1) q t → kind_at ts q ≡ kind.CloseRound
+    → Fixes (IsFollowed ts (Over 11) (Expression ts n)) m e → (m < length ts → j ≡ m + 1)
+    → (k q : ℕ) (t : ExprTree) → Expression ts (i + 1) q t → kind_at ts q ≡ kind.CloseRound
     → k ≡ q + 1 → (j ≡ k) × (e ≡ t)
 brackets_taken ts i n m j e is to_n fixes to_j k q t inner close end =
     let a : n ≡ i + 1 = to_n (inside_at ts i kind.OpenRound is tt) in
     let f = fixes.same q t (record {
-      spelled = subst (λ n. Level ts 10 n q t) (sym a) inner;
-      following = over_at 10 (kind_at ts q) kind.CloseRound close tt;
+      spelled = subst (λ n. Expression ts n q t) (sym a) inner;
+      following = over_at 11 (kind_at ts q) kind.CloseRound close tt;
     }) in
     let b : j ≡ q + 1 = subst (λ m. m < length ts → j ≡ m + 1) f.0 to_j
     (inside_at ts q kind.CloseRound close tt) in
@@ -326,7 +404,7 @@ brackets_taken ts i n m j e is to_n fixes to_j k q t inner close end =
 
 pub primary_brackets : (ts : List Placed) (i n m j : ℕ) (e : ExprTree)
     → kind.OpenRound ≡ kind_at ts i → (i < length ts → n ≡ i + 1)
-    → Fixes (IsFollowed ts (Over 10) (Level ts 10 n)) m e → (m < length ts → j ≡ m + 1)
+    → Fixes (IsFollowed ts (Over 11) (Expression ts n)) m e → (m < length ts → j ≡ m + 1)
     → Fixes (IsFollowed ts Uncalled (Primary ts i)) j e
 primary_brackets ts i n m j e is to_n fixes to_j = record {
   same = λ k t h.
@@ -342,7 +420,7 @@ arguments_none ts i n xs is next e = record { same = λ k t d. taken d }
   where
     taken : {k : ℕ} {t : tree.Arguments} → SpellsArguments ts i k t → (n ≡ k) × (xs ≡ t)
     taken (no_arguments was) = (next (inside_at ts i kind.CloseRound is tt), e)
-    taken (arguments first others) = absurd (subst Begins is (level_begins first))
+    taken (arguments first others) = absurd (subst Begins is (expression_begins first))
 
 -- the arguments so far, and the rest from a place on
 pub record MoreFrom (ts : List Placed) (i : ℕ) (xs : tree.Arguments) (k : ℕ) (t : tree.Arguments) :
@@ -352,13 +430,13 @@ pub record MoreFrom (ts : List Placed) (i : ℕ) (xs : tree.Arguments) (k : ℕ)
   pub joined : inside_tree.followed_by xs rest ≡ t
 
 more_over : {ts : List Placed} {i k : ℕ} {all : tree.Arguments} → MoreArguments ts i k all
-    → Over 10 (kind_at ts i)
-more_over {ts} {i} (no_more is) = over_at 10 (kind_at ts i) kind.CloseRound is tt
-more_over {ts} {i} (more is e others) = over_at 10 (kind_at ts i) kind.Comma is tt
+    → Over 11 (kind_at ts i)
+more_over {ts} {i} (no_more is) = over_at 11 (kind_at ts i) kind.CloseRound is tt
+more_over {ts} {i} (more is e others) = over_at 11 (kind_at ts i) kind.Comma is tt
 
 pub arguments_begin : (ts : List Placed) (i m : ℕ) (e : ExprTree) (xs ys : tree.Arguments)
     → kind_at ts i ≢ kind.CloseRound
-    → Fixes (IsFollowed ts (Over 10) (Level ts 10 i)) m e → ys ≡ tree.None
+    → Fixes (IsFollowed ts (Over 11) (Expression ts i)) m e → ys ≡ tree.None
     → ((es : tree.Arguments) → inside_tree.followed_by xs es ≡ inside_tree.followed_by ys
     (tree.More i e es)) → DerivesFrom (SpellsArguments ts i) (MoreFrom ts m xs)
 arguments_begin ts i m e xs ys not fixes none added = record { on = λ k t d. taken d }
@@ -377,7 +455,7 @@ arguments_begin ts i m e xs ys not fixes none added = record { on = λ k t d. ta
 pub arguments_more : (ts : List Placed) (i n m : ℕ) (e : ExprTree) (xs ys : tree.Arguments) (P : ℕ
     → tree.Arguments → Type 0)
     → DerivesFrom P (MoreFrom ts i ys) → kind_at ts i ≡ kind.Comma → (i < length ts → n ≡ i + 1)
-    → Fixes (IsFollowed ts (Over 10) (Level ts 10 n)) m e
+    → Fixes (IsFollowed ts (Over 11) (Expression ts n)) m e
     → ((es : tree.Arguments) → inside_tree.followed_by xs es ≡ inside_tree.followed_by ys
     (tree.More n e es)) → DerivesFrom P (MoreFrom ts m xs)
 arguments_more ts i n m e xs ys P leads is next fixes added = record {
@@ -393,7 +471,7 @@ arguments_more ts i n m e xs ys P leads is next fixes added = record {
     taken (no_more was) joined = absurd (cc)
     taken {k} {t} (more {m = q} {e = x} {all = others} was value spelled) joined =
         let f = fixes.same q x (record {
-          spelled = subst (λ n. Level ts 10 n q x) (sym here) value;
+          spelled = subst (λ n. Expression ts n q x) (sym here) value;
           following = more_over spelled;
         }) in
         record {
@@ -515,7 +593,7 @@ parts_field ts i p n a b x is next_p next_n e h =
 
 pub parts_element : (ts : List Placed) (i m c n : ℕ) (a b x : ExprTree)
     → kind.OpenSquare ≡ kind_at ts i → (i < length ts → m ≡ i + 1)
-    → Fixes (IsFollowed ts (Over 10) (Level ts 10 m)) c x → (c < length ts → n ≡ c + 1)
+    → Fixes (IsFollowed ts (Over 11) (Expression ts m)) c x → (c < length ts → n ≡ c + 1)
     → b ≡ tree.Index a i x
     → DerivesFrom (IsFollowed ts (Over 0) (λ k t. Parts ts i k a t))
     (IsFollowed ts (Over 0) (λ k t. Parts ts n k b t))
@@ -533,8 +611,8 @@ parts_element ts i m c n a b x is next_m fixes next_n h =
     taken {k} {t} (element {m = q} {b = y} was index close d) over =
         let here : m ≡ i + 1 = next_m (inside_at ts i kind.OpenSquare (sym is) tt) in
         let f = fixes.same q y (record {
-          spelled = subst (λ m. Level ts 10 m q y) (sym here) index;
-          following = over_at 10 (kind_at ts q) kind.CloseSquare close tt;
+          spelled = subst (λ m. Expression ts m q y) (sym here) index;
+          following = over_at 11 (kind_at ts q) kind.CloseSquare close tt;
         }) in
         let there : n ≡ q + 1 = subst (λ c. c < length ts → n ≡ c + 1) f.0 next_n
         (inside_at ts q kind.CloseSquare close tt) in
@@ -554,6 +632,10 @@ parts_none ts i a no_arrow no_square = record { same = λ k t d. taken d.spelled
 pub ruleset trees = (expr_of-Call, followed_by-one_more)
 
 pub ruleset binaries = (led_expr, level_to_unary, chain_begins, chain_steps, chain_ends)
+
+pub ruleset whole = (led_expr, condition_alone, condition_first)
+
+pub ruleset conditions = (both_sides)
 
 pub ruleset unaries = (led_expr, unary_signed, unary_unsigned)
 

@@ -18,7 +18,7 @@ use Rattle.c_tree.specs.StmtTree.{TypeTree, InitialTree, DeclarationTree, Simple
 use Rattle.c_tree.specs.StmtTree.{StmtTree, Statements, simple_of, stmt_of}
 use Rattle.c_tree.specs.StmtTree as tree
 use Rattle.c_tree.specs.inside.StmtTree as inside_tree
-use Rattle.c_tree.specs.Spelling.{Level, Postfix, postfix, parts_end, call}
+use Rattle.c_tree.specs.Spelling.{Expression, Postfix, postfix, parts_end, call}
 use Rattle.c_tree.specs.StmtSpelling.{Typed, int, pointer, Declares, plain, initial, Bracketed}
 use Rattle.c_tree.specs.StmtSpelling.{bracketed, assigns, steps, Simply, acts, calls, frees, aborts}
 use Rattle.c_tree.specs.StmtSpelling.{FirstPart, first_none, first_declares, first_simply}
@@ -37,7 +37,7 @@ use Rattle.c_parser.specs.inside.Pieces.{SpellsPlain, plain_empty}
 use Rattle.c_parser.specs.inside.Pieces.{plain_declares, plain_simply, plain_breaks}
 use Rattle.c_parser.specs.inside.Pieces.{plain_continues, plain_returns, goes_on}
 use Rattle.c_parser.proofs.Steps.{IsToken}
-use Rattle.c_parser.proofs.Forward.{Begins, level_begins, postfix_begins}
+use Rattle.c_parser.proofs.Forward.{Begins, expression_begins, postfix_begins}
 use Rattle.c_parser.proofs.ForwardStmt.{TypeBegins, declares_begins, SimpleBegins, simply_begins}
 use Rattle.c_parser.proofs.ForwardStmt.{Starts, spells_starts}
 use Rattle.c_tree.proofs.Trees.{and_then-nothing, and_then-one_more}
@@ -120,7 +120,7 @@ declares_plain ts i m n t y ty name to_n not = record { same = λ k d h. taken h
 pub declares_initial : (ts : List Placed) (i m n p j : ℕ) (t : TypeTree) (y : Ident) (v : ExprTree)
     → Fixes (Typed ts i) m t → y ≡ ident_at ts m
     → (m < length ts → n ≡ m + 1) → kind_at ts n ≡ kind.Assign assign.Set
-    → (n < length ts → p ≡ n + 1) → Fixes (IsFollowed ts (Over 10) (Level ts 10 p)) j v
+    → (n < length ts → p ≡ n + 1) → Fixes (IsFollowed ts (Over 11) (Expression ts p)) j v
     → Fixes (IsFollowed ts (IsOfKind kind.Semicolon) (Declares ts i)) j
     (record { ty = t; name = y; initial = Some (record { place = n; value = v }) })
 declares_initial ts i m n p j t y v ty name to_n is to_p fixes =
@@ -138,8 +138,8 @@ declares_initial ts i m n p j t y v ty name to_n is to_p fixes =
         let a = after_at ts m q n kind.Name f.0 was tt to_n in
         let b = after_at ts n (q + 1) p (kind.Assign assign.Set) a set tt to_p in
         let g = fixes.same k w (record {
-          spelled = subst (λ p. Level ts 10 p k w) (sym b) value;
-          following = over_at 10 (kind_at ts k) kind.Semicolon semi tt;
+          spelled = subst (λ p. Expression ts p k w) (sym b) value;
+          following = over_at 11 (kind_at ts k) kind.Semicolon semi tt;
         }) in (
           g.0,
           same_declared t s y (ident_at ts q) (Some (initially n v)) (Some (initially (q + 1) w))
@@ -149,7 +149,7 @@ declares_initial ts i m n p j t y v ty name to_n is to_p fixes =
 
 -- brackets
 pub bracketed_inner : (ts : List Placed) (i n m j : ℕ) (e : ExprTree) → (i < length ts → n ≡ i + 1)
-    → Fixes (IsFollowed ts (Over 10) (Level ts 10 n)) m e
+    → Fixes (IsFollowed ts (Over 11) (Expression ts n)) m e
     → (m < length ts → j ≡ m + 1) → Fixes (Bracketed ts i) j e
 bracketed_inner ts i n m j e to_n fixes to_j = record { same = λ k t d. taken d }
   where
@@ -158,19 +158,19 @@ bracketed_inner ts i n m j e to_n fixes to_j = record { same = λ k t d. taken d
         brackets_taken ts i n m j e is to_n fixes to_j (q + 1) q t value close refl
 
 -- the action on a target
-closes_over : (k : Kind) → ClosesSimple k → Over 10 k
+closes_over : (k : Kind) → ClosesSimple k → Over 11 k
 closes_over kind.Semicolon h = tt
 closes_over kind.CloseRound h = tt
 closes_over _ h = absurd h
 
 assign_taken : {ts : List Placed} {i k : ℕ} {a : ExprTree} {t : SimpleTree} (n j : ℕ) (o : AssignOp)
     (v : ExprTree) → kind.Assign o ≡ kind_at ts i → (i < length ts → n ≡ i + 1)
-    → Fixes (IsFollowed ts (Over 10) (Level ts 10 n)) j v → ActsOrCalls ts i k a t
+    → Fixes (IsFollowed ts (Over 11) (Expression ts n)) j v → ActsOrCalls ts i k a t
     → ClosesSimple (kind_at ts k) → (j ≡ k) × (tree.Assign a o i v ≡ t)
 assign_taken {ts} {i} {k} {a} n j o v is to_n fixes (acts_on (assigns {e = w} p was value)) closes =
     let b = after ts i n (kind.Assign o) (sym is) tt to_n in
     let g = fixes.same k w (record {
-      spelled = subst (λ n. Level ts 10 n k w) (sym b) value;
+      spelled = subst (λ n. Expression ts n k w) (sym b) value;
       following = closes_over (kind_at ts k) closes;
     }) in
     let e : o ≡ p = cc in
@@ -198,7 +198,7 @@ call_taken x no_assign no_step called (call_alone {n = n} {all = all}) = (refl, 
 
 pub acted_assign : (ts : List Placed) (i n j : ℕ) (a v : ExprTree) (o : AssignOp)
     → kind.Assign o ≡ kind_at ts i → (i < length ts → n ≡ i + 1)
-    → Fixes (IsFollowed ts (Over 10) (Level ts 10 n)) j v
+    → Fixes (IsFollowed ts (Over 11) (Expression ts n)) j v
     → Fixes (IsFollowed ts ClosesSimple (λ k t. ActsOrCalls ts i k a t)) j (tree.Assign a o i v)
 acted_assign ts i n j a v o is to_n fixes =
     record { same = λ k t h. assign_taken n j o v is to_n fixes h.spelled h.following }
@@ -376,10 +376,10 @@ value_part_none ts i is = record { same = λ k t h. taken h.spelled }
   where
     taken : {k : ℕ} {t : Option ExprTree} → ValuePart ts i k t → (i ≡ k) × (None ≡ t)
     taken value_none = (refl, refl)
-    taken (value_some e) = absurd (subst Begins is (level_begins e))
+    taken (value_some e) = absurd (subst Begins is (expression_begins e))
 
 pub value_part_some : (ts : List Placed) (i j : ℕ) (x : ExprTree) → kind_at ts i ≢ kind.Semicolon
-    → Fixes (IsFollowed ts (Over 10) (Level ts 10 i)) j x
+    → Fixes (IsFollowed ts (Over 11) (Expression ts i)) j x
     → Fixes (IsFollowed ts (IsOfKind kind.Semicolon) (ValuePart ts i)) j (Some x)
 value_part_some ts i j x not fixes = record { same = λ k t h. taken h.spelled h.following }
   where
@@ -388,7 +388,7 @@ value_part_some ts i j x not fixes = record { same = λ k t h. taken h.spelled h
     taken value_none semi = absurd (not semi)
     taken {k} (value_some {e = y} d) semi =
         let g = fixes.same k y (record
-        { spelled = d; following = over_at 10 (kind_at ts k) kind.Semicolon semi tt }) in
+        { spelled = d; following = over_at 11 (kind_at ts k) kind.Semicolon semi tt }) in
         (g.0, ap (λ x. Some x) g.1)
 
 pub third_part_none : (ts : List Placed) (i : ℕ) → kind_at ts i ≡ kind.CloseRound

@@ -1,4 +1,5 @@
--- An expression as unaries joined by operators, whatever their levels, and its tree.
+-- An expression as unaries joined by operators, whatever their levels, with both sides behind a
+-- `?`, and its tree.
 use Rattle.std.proofs.Common.{ℕ, zero, suc, ◌+◌, ◌≡◌, ◌≤◌, ◌⊎◌, inl, inr, List, Some, None, Bool}
 use Rattle.std.proofs.Common.{true, false, nat_eq, refl, sym, ap, ◌∙◌, subst, arith, if◌then◌else◌}
 use Rattle.std.proofs.lemmas.Bool.{eqb-false}
@@ -12,8 +13,9 @@ use Rattle.c_tree.specs.Kinds.{kind_at, ident_at, value_at}
 use Rattle.c_tree.specs.Operators.{op_at, sign_of, level_of}
 use Rattle.c_tree.specs.ExprTree.{ExprTree}
 use Rattle.c_tree.specs.ExprTree as trees
-use Rattle.c_tree.specs.Spelling.{Level, level_zero, level_suc, Chain, chain_end, chain_more, Unary}
-use Rattle.c_tree.specs.Spelling.{signed, unsigned, postfix, Parts, parts_end, field, element}
+use Rattle.c_tree.specs.Spelling.{Expression, unconditional, conditional, Level, level_zero}
+use Rattle.c_tree.specs.Spelling.{level_suc, Chain, chain_end, chain_more, Unary, signed, unsigned}
+use Rattle.c_tree.specs.Spelling.{postfix, Parts, parts_end, field, element}
 use Rattle.c_tree.specs.Spelling.{Primary, number, null, variable, call, root, new, brackets}
 use Rattle.c_tree.specs.Spelling.{SpellsArguments, no_arguments, arguments, MoreArguments, no_more}
 use Rattle.c_tree.specs.Spelling.{more}
@@ -42,6 +44,8 @@ mutual
         → Tail ts (i + 1 + 1) j → Tail ts i j
     f_index : {i m j : ℕ} → kind_at ts i ≡ kind.OpenSquare → Flat ts (i + 1) m
         → kind_at ts m ≡ kind.CloseSquare → Tail ts (m + 1) j → Tail ts i j
+    f_sides : {i m j : ℕ} → kind_at ts i ≡ kind.Question → Flat ts (i + 1) m
+        → kind_at ts m ≡ kind.Colon → Flat ts (m + 1) j → Tail ts i j
 
   -- the tokens that may follow a name
   pub data AfterName (ts : List Placed) : ℕ → ℕ → Type 0 where
@@ -58,11 +62,14 @@ mutual
     f_comma : {i m j : ℕ} → kind_at ts i ≡ kind.Comma → Flat ts (i + 1) m → OthersOf ts m j
         → OthersOf ts i j
 
--- operators with their right operands
+-- operators with their right operands, and then perhaps both sides of a condition
 data Ops (ts : List Placed) : ℕ → ℕ → Type 0 where
   ops_end : {i : ℕ} → Ops ts i i
   ops_more : {i m j : ℕ} {e : ExprTree} (o : BinaryOp) → kind_at ts i ≡ kind.Operator o
       → Unary ts (i + 1) m e → Ops ts m j → Ops ts i j
+  ops_sides : {i m j : ℕ} {a b : ExprTree} → kind_at ts i ≡ kind.Question
+      → Expression ts (i + 1) m a → kind_at ts m ≡ kind.Colon → Expression ts (m + 1) j b
+      → Ops ts i j
 
 lift : (ts : List Placed) (l i j : ℕ) (e : ExprTree) → Unary ts i j e → Level ts l i j e
 lift ts zero i j e u = level_zero u
@@ -160,13 +167,15 @@ high_level op.Both = omega arith
 high_level op.Either = omega arith
 
 group : {ts : List Placed} {m j : ℕ} → Ops ts m j → (s : ℕ) (e : ExprTree) → Level ts 10 s m e
-    → (x : ExprTree) × Level ts 10 s j x
-group ops_end s e lv = (e, lv)
+    → (x : ExprTree) × Expression ts s j x
+group ops_end s e lv = (e, unconditional lv)
 group {ts} {m} (ops_more {m = n} {e = b} o is u tail) s e lv =
     let r = snoc ts 10 s m n e b o lv is (low_level o) (high_level o) u in group tail s r.0 r.1
+group {ts} {m} (ops_sides {a = a} {b = b} is left colon right) s e lv =
+    (trees.Conditional e m a b, conditional lv is left colon right)
 
 whole : (ts : List Placed) (i m j : ℕ) (e : ExprTree) → Unary ts i m e → Ops ts m j
-    → (x : ExprTree) × Level ts 10 i j x
+    → (x : ExprTree) × Expression ts i j x
 whole ts i m j e u ops = group ops i e (lift ts 10 i m e u)
 
 abbrev Splits : List Placed → ℕ → ℕ → Type 0
@@ -201,6 +210,10 @@ mutual
   split_tail {ts} {i} (f_index {m = m} is f close tail) a =
       let s = split f in let w = whole ts (i + 1) s.0 m s.1 s.2 s.3 in
       let r = split_tail tail (trees.Index a i w.0) in (r.0, r.1, element is w.1 close r.2, r.3)
+  split_tail {ts} {i} {j} (f_sides {m = m} is f colon g) a =
+      let s = split f in let w = whole ts (i + 1) s.0 m s.1 s.2 s.3 in
+      let r = split g in let x = whole ts (m + 1) r.0 j r.1 r.2 r.3 in
+      (i, a, parts_end, ops_sides is w.1 colon x.1)
 
   split_after : {ts : List Placed} {i' j : ℕ} → AfterName ts i' j → (i : ℕ) → i' ≡ i + 1
       → kind_at ts i ≡ kind.Name → Splits ts i j
@@ -235,7 +248,7 @@ mutual
       let s = split f in let w = whole ts (i + 1) s.0 m s.1 s.2 s.3 in
       let r = split_others others in (trees.More (i + 1) w.0 r.0, more is w.1 r.1)
 
-pub flat_tree : (ts : List Placed) (i j : ℕ) → Flat ts i j → (e : ExprTree) × Level ts 10 i j e
+pub flat_tree : (ts : List Placed) (i j : ℕ) → Flat ts i j → (e : ExprTree) × Expression ts i j e
 flat_tree ts i j f = let s = split f in whole ts i s.0 j s.1 s.2 s.3
 
 pub first_tree : (ts : List Placed) (i j : ℕ) → FirstOf ts i j → (all : trees.Arguments)

@@ -9,23 +9,27 @@ use Rattle.c_tree.specs.declared.expr.UnaryOp.{UnaryOp}
 use Rattle.c_tree.specs.declared.kind.Kind.{Kind}
 use Rattle.c_tree.specs.declared.kind.Kind.TheVariants as kind
 use Rattle.c_parser.specs.declared.want.Want.{Want}
-use Rattle.c_parser.specs.declared.want.Want.TheVariants.{Operand, Rest, Named, Dot, FirstArgument}
+use Rattle.c_parser.specs.declared.want.Want.TheVariants.{Operand, Rest, Named, Dot, Colon}
+use Rattle.c_parser.specs.declared.want.Want.TheVariants.{FirstArgument}
 use Rattle.c_parser.specs.declared.want.Want.TheVariants.{MoreArguments, NewOpen, Ident, StructWord}
 use Rattle.c_parser.specs.declared.want.Want.TheVariants.{Round, Square, Value}
 use Rattle.c_tree.specs.Kinds.{kind_at}
 use Rattle.c_tree.specs.Operators.{op_at, sign_of, level_of}
 use Rattle.c_tree.specs.ExprTree.{ExprTree}
 use Rattle.c_tree.specs.ExprTree as trees
-use Rattle.c_tree.specs.Spelling.{Level, level_zero, level_suc, Chain, chain_end, chain_more, Unary}
-use Rattle.c_tree.specs.Spelling.{signed, unsigned, Postfix, postfix, Parts, parts_end, field}
+use Rattle.c_tree.specs.Spelling.{Expression, unconditional, conditional, Level, level_zero}
+use Rattle.c_tree.specs.Spelling.{level_suc, Chain, chain_end, chain_more, Unary, signed, unsigned}
+use Rattle.c_tree.specs.Spelling.{Postfix, postfix, Parts, parts_end, field}
 use Rattle.c_tree.specs.Spelling.{element, Primary, number, null, variable, call, root, new}
 use Rattle.c_tree.specs.Spelling.{brackets, SpellsArguments, no_arguments, arguments}
 use Rattle.c_tree.specs.Spelling.{MoreArguments as MoreOf, no_more, more}
 use Rattle.c_parser.specs.inside.Wants.{Take, apply_move, parser_step, operand}
 use Rattle.c_parser.specs.Open.{OpenParts, none_open, one_open}
-use Rattle.c_parser.specs.ExprOpen.{level_operators, chain_operators, unary_operators}
+use Rattle.c_parser.specs.ExprOpen.{expression_operators, level_operators, chain_operators}
+use Rattle.c_parser.specs.ExprOpen.{unary_operators}
 use Rattle.c_parser.specs.ExprOpen.{postfix_operators, parts_operators, primary_operators}
-use Rattle.c_parser.specs.ExprOpen.{level_open, chain_open, unary_open, postfix_open, parts_open}
+use Rattle.c_parser.specs.ExprOpen.{expression_open, level_open, chain_open, unary_open}
+use Rattle.c_parser.specs.ExprOpen.{postfix_open, parts_open}
 use Rattle.c_parser.specs.ExprOpen.{primary_open, arguments_open, more_open}
 use Rattle.c_parser.specs.inside.Stacks.{own_weight, weight}
 use Rattle.c_parser.proofs.Steps.{IsToken}
@@ -42,6 +46,7 @@ abbrev pub IsEnder : Kind → Type 0
 IsEnder kind.CloseRound = Unit {0}
 IsEnder kind.CloseSquare = Unit {0}
 IsEnder kind.Comma = Unit {0}
+IsEnder kind.Colon = Unit {0}
 IsEnder kind.Semicolon = Unit {0}
 IsEnder _ = ⊥
 
@@ -50,10 +55,12 @@ after_yields : {x : Want} → AfterWant x → (k : Kind) → IsEnder k → (belo
 after_yields (after_rest n) kind.CloseRound h below = refl
 after_yields (after_rest n) kind.CloseSquare h below = refl
 after_yields (after_rest n) kind.Comma h below = refl
+after_yields (after_rest n) kind.Colon h below = refl
 after_yields (after_rest n) kind.Semicolon h below = refl
 after_yields (after_name n) kind.CloseRound h below = refl
 after_yields (after_name n) kind.CloseSquare h below = refl
 after_yields (after_name n) kind.Comma h below = refl
+after_yields (after_name n) kind.Colon h below = refl
 after_yields (after_name n) kind.Semicolon h below = refl
 after_yields _ _ h below = absurd h
 
@@ -74,6 +81,12 @@ element_after : {x : Want} → AfterWant x → (k : List Want)
     ≡ Some (Operand 0 ∷ Square ∷ Rest n ∷ k))
 element_after (after_rest n) k = (n + 1, omega arith, refl)
 element_after (after_name n) k = (n + 1, omega arith, refl)
+
+question_after : {x : Want} → AfterWant x → (k : List Want)
+    → (n : ℕ) × (n ≡ own_weight x + 1) × (parser_step (x ∷ k) kind.Question
+    ≡ Some (Operand 0 ∷ Colon n ∷ k))
+question_after (after_rest n) k = (n + 1, omega arith, refl)
+question_after (after_name n) k = (n + 1, omega arith, refl)
 
 if_same : (b : Bool) (p o : BinaryOp) → (if b then Some p else None) ≡ Some o → p ≡ o
 if_same true p o h = cc
@@ -139,10 +152,15 @@ pub unary_begins : {ts : List Placed} {i j : ℕ} {e : ExprTree} → Unary ts i 
 unary_begins {ts} {i} (signed o is u) = sign_begins (kind_at ts i) o is
 unary_begins (unsigned p) = postfix_begins p
 
-pub level_begins : {ts : List Placed} {l i j : ℕ} {e : ExprTree} → Level ts l i j e
+level_begins : {ts : List Placed} {l i j : ℕ} {e : ExprTree} → Level ts l i j e
     → Begins (kind_at ts i)
 level_begins (level_zero u) = unary_begins u
 level_begins (level_suc a c) = level_begins a
+
+pub expression_begins : {ts : List Placed} {i j : ℕ} {e : ExprTree} → Expression ts i j e
+    → Begins (kind_at ts i)
+expression_begins (unconditional lv) = level_begins lv
+expression_begins (conditional lv is left colon right) = level_begins lv
 
 first_enters : (k : List Want) (t : Kind) → Begins t → parser_step (FirstArgument ∷ k) t
     ≡ parser_step (Operand 0 ∷ MoreArguments ∷ k) t
@@ -200,6 +218,28 @@ new_run ts i around k same opens s name close =
     (omega (arith, same))
 
 mutual
+  pub expression_reaches : {ts : List Placed} {i j : ℕ} {e : ExprTree} (d : Expression ts i j e)
+      (n : ℕ) (k : List Want)
+      → Reaches ts i (Operand n ∷ k) j k (n + weight k) (expression_open d)
+      (n + expression_operators d)
+  expression_reaches (unconditional lv) n k = level_runs lv n k
+  expression_reaches {ts} (conditional {m = m} {n = q} lv is left colon right) n k =
+      let r = level_runs lv n k in
+      let p = question_after r.1 k in
+      let s = expression_reaches left 0 (Colon p.0 ∷ k) in
+      let u = expression_reaches right p.0 k in (
+        u.0,
+        u.1,
+        omega (arith, p.1, r.2, u.2),
+        r.3 ▸ after_operators (level_operators lv + 1) (omega (arith, p.1, r.2))
+            (goes ts m (p.0 + weight k) none_open (r.0 ∷ k) (Operand 0 ∷ Colon p.0 ∷ k)
+            kind.Question is tt p.2 (omega arith)
+            ▸ around_same (omega arith) (over kind.Colon colon tt s.1 (Colon p.0 ∷ k) s.3)
+            ▸ goes ts q (p.0 + weight k) none_open (Colon p.0 ∷ k) (Operand p.0 ∷ k) kind.Colon
+            colon tt refl (omega arith)
+            ▸ u.3),
+      )
+
   pub level_runs : {ts : List Placed} {l i j : ℕ} {e : ExprTree} (lv : Level ts l i j e) (n : ℕ)
       (k : List Want)
       → Reaches ts i (Operand n ∷ k) j k (n + weight k) (level_open lv) (n + level_operators lv)
@@ -279,7 +319,7 @@ mutual
   parts_run {ts} {i} (element {m = m} is lv close tail) x b k =
       let f = element_after b k in
       let s = parts_run tail (Rest f.0) (after_rest f.0) k in
-      let r = level_runs lv 0 (Square ∷ Rest f.0 ∷ k) in
+      let r = expression_reaches lv 0 (Square ∷ Rest f.0 ∷ k) in
       let q : ℕ = own_weight (Rest f.0) + weight k in (
         s.0,
         s.1,
@@ -346,7 +386,7 @@ mutual
         ▸ new_run ts (i + 1) (n + weight k) (Rest n ∷ k) (omega arith) opens s name close,
   )
   primary_runs {ts} {i} (brackets {m = m} is lv close) n k =
-      let r = level_runs lv 0 (Round ∷ Rest n ∷ k) in (
+      let r = expression_reaches lv 0 (Round ∷ Rest n ∷ k) in (
         Rest n,
         after_rest n,
         omega arith,
@@ -365,9 +405,9 @@ mutual
       goes ts i around none_open (FirstArgument ∷ k) k kind.CloseRound is tt refl
       (omega (arith, same))
   arguments_run {ts} {i} (arguments {m = m} lv tail) around k same =
-      let r = level_runs lv 0 (MoreArguments ∷ k) in
+      let r = expression_reaches lv 0 (MoreArguments ∷ k) in
       begins_alike ts i (FirstArgument ∷ k) (Operand 0 ∷ MoreArguments ∷ k)
-      (first_enters k (kind_at ts i) (level_begins lv))
+      (first_enters k (kind_at ts i) (expression_begins lv))
       (inside_bracket (omega (arith, same)) r.3 ▸ more_run tail r.1 around k same)
 
   pub more_run : {ts : List Placed} {i j : ℕ} {all : trees.Arguments} (d : MoreOf ts i j all)
@@ -379,15 +419,15 @@ mutual
       (goes ts i around none_open (MoreArguments ∷ k) k kind.CloseRound is tt refl
       (omega (arith, same)))
   more_run {ts} {i} (more is lv tail) {x} b around k same =
-      let r = level_runs lv 0 (MoreArguments ∷ k) in
+      let r = expression_reaches lv 0 (MoreArguments ∷ k) in
       begins_alike ts i (x ∷ MoreArguments ∷ k) (MoreArguments ∷ k)
       (ends_at ts i kind.Comma is tt b (MoreArguments ∷ k))
       (goes ts i around one_open (MoreArguments ∷ k) (Operand 0 ∷ MoreArguments ∷ k) kind.Comma
       is tt refl (omega (arith, same))
       ▸ inside_bracket (omega (arith, same)) r.3 ▸ more_run tail r.1 around k same)
 
-pub expression_runs : {ts : List Placed} {i j : ℕ} {e : ExprTree} (lv : Level ts 10 i j e)
+pub expression_runs : {ts : List Placed} {i j : ℕ} {e : ExprTree} (lv : Expression ts i j e)
     (t : Kind) → kind_at ts j ≡ t → IsEnder t → (around n : ℕ) (k : List Want)
-    → around ≡ n + weight k → RunsPast ts i (Operand n ∷ k) j k around (level_open lv)
+    → around ≡ n + weight k → RunsPast ts i (Operand n ∷ k) j k around (expression_open lv)
 expression_runs lv t is ender around n k same =
-    let r = level_runs lv n k in around_same (sym same) (over t is ender r.1 k r.3)
+    let r = expression_reaches lv n k in around_same (sym same) (over t is ender r.1 k r.3)

@@ -41,7 +41,7 @@ use Rattle.c_parser.specs.inside.Stacks.{own_weight, weight}
 use Rattle.c_parser.proofs.Steps.{IsToken}
 use Rattle.c_parser.proofs.RunsPast.{RunsPast, goes, begins_alike, ends_alike, stays, ◌▸◌}
 use Rattle.c_parser.proofs.RunsPast.{inside_bracket, inside_body, after_operators}
-use Rattle.c_parser.proofs.Forward.{expression_runs, arguments_run, new_run, level_begins}
+use Rattle.c_parser.proofs.Forward.{expression_runs, arguments_run, new_run, expression_begins}
 use Rattle.c_parser.proofs.Forward.{value_enters}
 use Rattle.c_parser.proofs.Finish.{else_step}
 
@@ -520,7 +520,7 @@ value_runs {ts} {i} value_none semi around k same =
     begins_alike ts i (Value ∷ k) k (value_stops k (kind_at ts i) semi) (stays k)
 value_runs {ts} {i} (value_some lv) semi around k same =
     begins_alike ts i (Value ∷ k) (Operand 0 ∷ k)
-    (value_enters k (kind_at ts i) (level_begins lv))
+    (value_enters k (kind_at ts i) (expression_begins lv))
     (expression_runs lv kind.Semicolon semi tt around 0 k (omega (arith, same)))
 
 first_runs : {ts : List Placed} {i j : ℕ} {f : Option FirstTree} (d : FirstPart ts i j f)

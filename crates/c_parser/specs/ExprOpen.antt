@@ -1,11 +1,13 @@
 -- What is open after each token of an expression, production by production. The operators of an
--- expression are its binary and unary ones, each `->`, each `[` and the `.` after `root`. It
--- doesn't count those inside its brackets, which are the operators of an expression of their own.
+-- expression are its binary and unary ones, each `?`, each `->`, each `[` and the `.` after `root`.
+-- It doesn't count those inside its brackets, or between a `?` and its `:`, which are the operators
+-- of an expression of their own.
 use Rattle.std.specs.Prelude.{ℕ, ◌+◌, List, [], ◌∷◌, ◌++◌}
 use Rattle.c_lexer.specs.declared.token.Placed.{Placed}
 use Rattle.c_tree.specs.ExprTree.{ExprTree, Arguments}
-use Rattle.c_tree.specs.Spelling.{Level, level_zero, level_suc, Chain, chain_end, chain_more, Unary}
-use Rattle.c_tree.specs.Spelling.{signed, unsigned, Postfix, postfix, Parts, parts_end, field}
+use Rattle.c_tree.specs.Spelling.{Expression, unconditional, conditional, Level, level_zero}
+use Rattle.c_tree.specs.Spelling.{level_suc, Chain, chain_end, chain_more, Unary, signed, unsigned}
+use Rattle.c_tree.specs.Spelling.{Postfix, postfix, Parts, parts_end, field}
 use Rattle.c_tree.specs.Spelling.{element, Primary, number, null, variable, call, root, new}
 use Rattle.c_tree.specs.Spelling.{brackets, SpellsArguments, no_arguments, arguments, MoreArguments}
 use Rattle.c_tree.specs.Spelling.{no_more, more}
@@ -43,7 +45,20 @@ abbrev mutual
   chain_operators (chain_more o is operand others) =
       1 + (level_operators operand + chain_operators others)
 
+abbrev pub expression_operators : {ts : List Placed} {i j : ℕ} {e : ExprTree}
+    → Expression ts i j e → ℕ
+expression_operators (unconditional operand) = level_operators operand
+expression_operators (conditional condition is left colon right) =
+    level_operators condition + (1 + expression_operators right)
+
 abbrev mutual
+  pub expression_open : {ts : List Placed} {i j : ℕ} {e : ExprTree}
+      → Expression ts i j e → List OpenParts
+  expression_open (unconditional operand) = level_open operand
+  expression_open (conditional condition is left colon right) =
+      level_open condition ++ so_far (level_operators condition + 1) (none_open
+      ∷ (expression_open left ++ (none_open ∷ expression_open right)))
+
   pub level_open : {ts : List Placed} {l i j : ℕ} {e : ExprTree}
       → Level ts l i j e → List OpenParts
   level_open (level_zero operand) = unary_open operand
@@ -71,7 +86,7 @@ abbrev mutual
   parts_open parts_end = []
   parts_open (field is name others) = so_far 1 (none_open ∷ none_open ∷ parts_open others)
   parts_open (element is inner close others) =
-      so_far 1 (one_open ∷ (in_bracket (level_open inner) ++ (none_open ∷ parts_open others)))
+      so_far 1 (one_open ∷ (in_bracket (expression_open inner) ++ (none_open ∷ parts_open others)))
 
   pub primary_open : {ts : List Placed} {i j : ℕ} {e : ExprTree}
       → Primary ts i j e → List OpenParts
@@ -83,15 +98,16 @@ abbrev mutual
   primary_open (new is opens struct name close) =
       none_open ∷ one_open ∷ one_open ∷ one_open ∷ none_open ∷ []
   primary_open (brackets is inner close) =
-      one_open ∷ (in_bracket (level_open inner) ++ (none_open ∷ []))
+      one_open ∷ (in_bracket (expression_open inner) ++ (none_open ∷ []))
 
   -- from the token after the opening bracket on
   pub arguments_open : {ts : List Placed} {i j : ℕ} {all : Arguments}
       → SpellsArguments ts i j all → List OpenParts
   arguments_open (no_arguments is) = none_open ∷ []
-  arguments_open (arguments first others) = in_bracket (level_open first) ++ more_open others
+  arguments_open (arguments first others) = in_bracket (expression_open first) ++ more_open others
 
   pub more_open : {ts : List Placed} {i j : ℕ} {all : Arguments}
       → MoreArguments ts i j all → List OpenParts
   more_open (no_more is) = none_open ∷ []
-  more_open (more is next others) = one_open ∷ (in_bracket (level_open next) ++ more_open others)
+  more_open (more is next others) =
+      one_open ∷ (in_bracket (expression_open next) ++ more_open others)

@@ -14,7 +14,7 @@ use Rattle.c_tree.specs.StmtSpelling.{third_some, Spells, empty, declares, simpl
 use Rattle.c_tree.specs.StmtSpelling.{if_else, repeats, repeats_after, counts, breaks, continues}
 use Rattle.c_tree.specs.StmtSpelling.{returns, SpellsAll, nothing, something}
 use Rattle.c_parser.specs.Open.{OpenParts, none_open, one_open, in_bracket, in_body}
-use Rattle.c_parser.specs.ExprOpen.{level_open, postfix_open, arguments_open}
+use Rattle.c_parser.specs.ExprOpen.{expression_open, postfix_open, arguments_open}
 
 abbrev pub typed_open : {ts : List Placed} {i j : ℕ} {t : TypeTree}
     → Typed ts i j t → List OpenParts
@@ -25,16 +25,16 @@ abbrev pub declares_open : {ts : List Placed} {i j : ℕ} {d : DeclarationTree}
     → Declares ts i j d → List OpenParts
 declares_open (plain ty name) = typed_open ty ++ (none_open ∷ [])
 declares_open (initial ty name is value) = typed_open ty ++ (none_open ∷ none_open
-    ∷ level_open value)
+    ∷ expression_open value)
 
 abbrev pub bracketed_open : {ts : List Placed} {i j : ℕ} {e : ExprTree}
     → Bracketed ts i j e → List OpenParts
 bracketed_open (bracketed is inner close) =
-    one_open ∷ (in_bracket (level_open inner) ++ (none_open ∷ []))
+    one_open ∷ (in_bracket (expression_open inner) ++ (none_open ∷ []))
 
 abbrev pub acts_open : {ts : List Placed} {i j : ℕ} {a : ExprTree} {s : SimpleTree}
     → Acts ts i j a s → List OpenParts
-acts_open (assigns o is value) = none_open ∷ level_open value
+acts_open (assigns o is value) = none_open ∷ expression_open value
 acts_open (steps o is) = none_open ∷ []
 
 abbrev pub simply_open : {ts : List Placed} {i j : ℕ} {s : SimpleTree}
@@ -53,7 +53,7 @@ first_open (first_simply one) = simply_open one
 abbrev pub value_open : {ts : List Placed} {i j : ℕ} {c : Option ExprTree}
     → ValuePart ts i j c → List OpenParts
 value_open value_none = []
-value_open (value_some value) = level_open value
+value_open (value_some value) = expression_open value
 
 abbrev pub third_open : {ts : List Placed} {i j : ℕ} {t : Option SimpleTree}
     → ThirdPart ts i j t → List OpenParts

@@ -7,8 +7,10 @@ ghost use Rattle.c_tree.specs.Operators.{level_of, op_at, sign_of};
 ghost use Rattle.c_tree.specs.ExprTree as trees;
 ghost use Rattle.c_tree.specs.ExprTree.{ident_of, expr_of, arguments_in};
 ghost use Rattle.c_tree.specs.inside.ExprTree.{followed_by};
-ghost use Rattle.c_tree.specs.Spelling.{Level, Unary, Postfix, Parts, Primary, SpellsArguments};
+ghost use Rattle.c_tree.specs.Spelling.{Expression, Level, Unary, Postfix, Parts, Primary};
+ghost use Rattle.c_tree.specs.Spelling.{SpellsArguments};
 ghost use Rattle.c_parser.specs.inside.Fixes.{Fixes, IsFollowed, Over, Uncalled};
+ghost use Rattle.c_parser.specs.inside.Pieces.{FromCondition};
 
 use c_lexer::TokenList;
 use c_tree::expr::{Argument, BinaryOp, Expr, Name, UnaryOp};
@@ -78,6 +80,27 @@ fn make_binary(
     })
 }
 
+fn make_conditional(
+    alloc: Global,
+    condition: Expr,
+    place: u64,
+    left: Expr,
+    right: Expr,
+) -> Result<Expr, AllocError>
+    ensures { IfOk result (λ e. expr_of e
+        ≡ trees.Conditional (expr_of condition) place (expr_of left) (expr_of right)) }
+{
+    let condition = Box::new(alloc, condition)?;
+    let left = Box::new(alloc, left)?;
+    let right = Box::new(alloc, right)?;
+    Ok(Expr::Conditional {
+        condition,
+        place,
+        left,
+        right,
+    })
+}
+
 fn make_unary(alloc: Global, op: UnaryOp, place: u64, operand: Expr) -> Result<Expr, AllocError>
     ensures { IfOk result (λ e. expr_of e ≡ trees.Unary op place (expr_of operand)) }
 {
@@ -117,13 +140,39 @@ fn add_argument(all: &mut Vec<Argument>, first: u64, value: Expr) -> Result<(), 
 
 /// A whole expression, and the place after it.
 #[cycle(expressions)]
+#[tactic(auto, using(crate::proofs::FixesExpr::whole))]
 pub fn expression(alloc: Global, tokens: &TokenList, at: u64) -> Result<(Expr, u64), AllocError>
     ensures stays { IfOk result (λ r. at ≤ r.1) }
     ensures fixes { IfOk result (λ r.
-        Fixes (IsFollowed tokens.now.tokens (Over 10) (Level tokens.now.tokens 10 at)) r.1
+        Fixes (IsFollowed tokens.now.tokens (Over 11) (Expression tokens.now.tokens at)) r.1
         (expr_of r.0)) }
 {
-    binary(alloc, tokens, at, LEVELS)
+    let (condition, place) = binary(alloc, tokens, at, LEVELS)?;
+    if kind_at(tokens, place) == Kind::Question {
+        return sides(alloc, tokens, place, condition);
+    }
+    Ok((condition, place))
+}
+
+/// Both sides of a conditional expression, from its `?` on.
+#[cycle(expressions)]
+#[tactic(auto, using(crate::proofs::FixesExpr::conditions))]
+fn sides(
+    alloc: Global,
+    tokens: &TokenList,
+    at: u64,
+    condition: Expr,
+) -> Result<(Expr, u64), AllocError>
+    requires question { kinds.kind_at tokens.now.tokens at ≡ Kind.Question }
+    requires inside { at < length tokens.now.tokens }
+    ensures stays { IfOk result (λ r. at ≤ r.1) }
+    ensures fixes { IfOk result (λ r.
+        Fixes (IsFollowed tokens.now.tokens (Over 11)
+        (FromCondition tokens.now.tokens at (expr_of condition))) r.1 (expr_of r.0)) }
+{
+    let (left, colon) = expression(alloc, tokens, place_after(tokens, at))?;
+    let (right, next) = expression(alloc, tokens, place_after(tokens, colon))?;
+    Ok((make_conditional(alloc, condition, at, left, right)?, next))
 }
 
 /// Unaries joined by operators of levels 1 to `level`.

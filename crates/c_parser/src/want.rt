@@ -26,6 +26,8 @@ pub enum Want {
     Named(u64),
     /// The `.` after `root`.
     Dot(u64),
+    /// The `:` of an open `?`, and the right side.
+    Colon(u64),
     /// The first argument, or the `)`.
     FirstArgument,
     /// A `,` and an argument, or the `)`.
@@ -103,6 +105,7 @@ fn own(want: Want) -> u64
 {
     match want {
         Want::Operand(n) | Want::Rest(n) | Want::Named(n) | Want::Dot(n) | Want::Target(n) => n,
+        Want::Colon(n) => n,
         Want::Round | Want::Square | Want::FirstArgument | Want::MoreArguments => 1,
         Want::Block(_) | Want::Fields | Want::Parameters | Want::MoreParameters => 1,
         Want::Bare => 1,
@@ -216,6 +219,7 @@ impl Wants {
             Kind::Operator(_) => self.take(&[Want::Operand(n + 1)]),
             Kind::Arrow => self.take(&[Want::Ident, Want::Rest(n + 1)]),
             Kind::OpenSquare => self.take(&[Want::Operand(0), Want::Square, Want::Rest(n + 1)]),
+            Kind::Question => self.take(&[Want::Operand(0), Want::Colon(n + 1)]),
             _ => Ok(Taken::Yielded),
         }
     }
@@ -236,6 +240,15 @@ impl Wants {
     {
         match kind {
             Kind::Dot => self.take(&[Want::Ident, Want::Rest(n + 1)]),
+            _ => Ok(Taken::Refused),
+        }
+    }
+
+    fn colon(&mut self, n: u64, kind: Kind) -> Result<Taken, AllocError>
+        ensures { IfOk result (λ t. done t self.new ≡ moves_to (wants.colon n kind) self.old) }
+    {
+        match kind {
+            Kind::Colon => self.take(&[Want::Operand(n)]),
             _ => Ok(Taken::Refused),
         }
     }
@@ -608,6 +621,7 @@ impl Wants {
             Want::Rest(n) => self.rest(n, kind),
             Want::Named(n) => self.named(n, kind),
             Want::Dot(n) => self.dot(n, kind),
+            Want::Colon(n) => self.colon(n, kind),
             Want::FirstArgument => self.first_argument(kind),
             Want::MoreArguments => self.more_arguments(kind),
             Want::NewOpen => self.new_open(kind),

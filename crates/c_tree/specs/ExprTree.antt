@@ -27,6 +27,7 @@ mutual
     Index : ExprTree → (place : ℕ) → ExprTree → ExprTree
     Unary : UnaryOp → (place : ℕ) → ExprTree → ExprTree
     Binary : BinaryOp → (place : ℕ) → ExprTree → ExprTree → ExprTree
+    Conditional : ExprTree → (place : ℕ) → ExprTree → ExprTree → ExprTree
 
   -- arguments, each with the place of its first token
   pub data Arguments : Type 0 where
@@ -48,6 +49,8 @@ abbrev mutual
   expr_of (node.Index' p base place q index) = Index (expr_of base) place (expr_of index)
   expr_of (node.Unary' op place p operand) = Unary op place (expr_of operand)
   expr_of (node.Binary' op place p left q right) = Binary op place (expr_of left) (expr_of right)
+  expr_of (node.Conditional' p c place q left r right) =
+      Conditional (expr_of c) place (expr_of left) (expr_of right)
 
   pub arguments_of : {m : _} → Row_of-Argument m → Arguments
   arguments_of end_of-Argument = None

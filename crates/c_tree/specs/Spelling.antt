@@ -13,6 +13,15 @@ use Rattle.c_tree.specs.ExprTree.{ExprTree}
 use Rattle.c_tree.specs.ExprTree as tree
 
 mutual
+  -- operands joined by operators, or a condition and both sides, of which the right one may be
+  -- such again
+  pub data Expression (ts : List Placed) : ℕ → ℕ → ExprTree → Type 0 where
+    unconditional : {i j : ℕ} {e : ExprTree} → Level ts 10 i j e → Expression ts i j e
+    conditional : {i m n j : ℕ} {c a b : ExprTree}
+        → Level ts 10 i m c → kind_at ts m ≡ kind.Question
+        → Expression ts (m + 1) n a → kind_at ts n ≡ kind.Colon → Expression ts (n + 1) j b
+        → Expression ts i j (tree.Conditional c m a b)
+
   -- operators of levels 1 to l over unaries
   pub data Level (ts : List Placed) : ℕ → ℕ → ℕ → ExprTree → Type 0 where
     level_zero : {i j : ℕ} {e : ExprTree} → Unary ts i j e → Level ts zero i j e
@@ -40,8 +49,9 @@ mutual
         → kind_at ts i ≡ kind.Arrow → kind_at ts (i + 1) ≡ kind.Name
         → Parts ts (i + 1 + 1) j (tree.Arrow a i (ident_at ts (i + 1))) e → Parts ts i j a e
     element : {i m j : ℕ} {a b e : ExprTree}
-        → kind_at ts i ≡ kind.OpenSquare → Level ts 10 (i + 1) m b → kind_at ts m ≡ kind.CloseSquare
-        → Parts ts (m + 1) j (tree.Index a i b) e → Parts ts i j a e
+        → kind_at ts i ≡ kind.OpenSquare → Expression ts (i + 1) m b
+        → kind_at ts m ≡ kind.CloseSquare → Parts ts (m + 1) j (tree.Index a i b) e
+        → Parts ts i j a e
 
   pub data Primary (ts : List Placed) : ℕ → ℕ → ExprTree → Type 0 where
     number : {i : ℕ} → kind_at ts i ≡ kind.Number
@@ -63,18 +73,19 @@ mutual
         → Primary ts i (i + 1 + 1 + 1 + 1 + 1) (tree.New i (ident_at ts (i + 1 + 1 + 1)))
     -- brackets leave no node
     brackets : {i m : ℕ} {e : ExprTree}
-        → kind_at ts i ≡ kind.OpenRound → Level ts 10 (i + 1) m e → kind_at ts m ≡ kind.CloseRound
-        → Primary ts i (m + 1) e
+        → kind_at ts i ≡ kind.OpenRound → Expression ts (i + 1) m e
+        → kind_at ts m ≡ kind.CloseRound → Primary ts i (m + 1) e
 
   -- from the place after the opening bracket to the place after the closing one
   pub data SpellsArguments (ts : List Placed) : ℕ → ℕ → tree.Arguments → Type 0 where
     no_arguments : {i : ℕ} → kind_at ts i ≡ kind.CloseRound → SpellsArguments ts i (i + 1) tree.None
     arguments : {i m j : ℕ} {e : ExprTree} {all : tree.Arguments}
-        → Level ts 10 i m e → MoreArguments ts m j all → SpellsArguments ts i j (tree.More i e all)
+        → Expression ts i m e → MoreArguments ts m j all
+        → SpellsArguments ts i j (tree.More i e all)
 
   -- from the place after an argument
   pub data MoreArguments (ts : List Placed) : ℕ → ℕ → tree.Arguments → Type 0 where
     no_more : {i : ℕ} → kind_at ts i ≡ kind.CloseRound → MoreArguments ts i (i + 1) tree.None
     more : {i m j : ℕ} {e : ExprTree} {all : tree.Arguments}
-        → kind_at ts i ≡ kind.Comma → Level ts 10 (i + 1) m e → MoreArguments ts m j all
+        → kind_at ts i ≡ kind.Comma → Expression ts (i + 1) m e → MoreArguments ts m j all
         → MoreArguments ts i j (tree.More (i + 1) e all)

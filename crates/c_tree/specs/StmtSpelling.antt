@@ -12,7 +12,7 @@ use Rattle.c_tree.specs.ExprTree as expr
 use Rattle.c_tree.specs.StmtTree.{TypeTree, DeclarationTree, SimpleTree, FirstTree, StmtTree}
 use Rattle.c_tree.specs.StmtTree.{Statements}
 use Rattle.c_tree.specs.StmtTree as tree
-use Rattle.c_tree.specs.Spelling.{Level, Postfix, SpellsArguments}
+use Rattle.c_tree.specs.Spelling.{Expression, Postfix, SpellsArguments}
 
 pub data Typed (ts : List Placed) : ℕ → ℕ → TypeTree → Type 0 where
   int : {i : ℕ} → kind_at ts i ≡ kind.Int → Typed ts i (i + 1) tree.Int
@@ -28,7 +28,7 @@ pub data Declares (ts : List Placed) : ℕ → ℕ → DeclarationTree → Type 
       → Declares ts i (m + 1) (record { ty = t; name = ident_at ts m; initial = None })
   initial : {i m j : ℕ} {t : TypeTree} {e : ExprTree}
       → Typed ts i m t → kind_at ts m ≡ kind.Name → kind_at ts (m + 1) ≡ kind.Assign assign.Set
-      → Level ts 10 (m + 1 + 1) j e
+      → Expression ts (m + 1 + 1) j e
       → Declares ts i j (record {
         ty = t;
         name = ident_at ts m;
@@ -38,13 +38,14 @@ pub data Declares (ts : List Placed) : ℕ → ℕ → DeclarationTree → Type 
 -- an expression in brackets
 pub data Bracketed (ts : List Placed) : ℕ → ℕ → ExprTree → Type 0 where
   bracketed : {i m : ℕ} {e : ExprTree}
-      → kind_at ts i ≡ kind.OpenRound → Level ts 10 (i + 1) m e → kind_at ts m ≡ kind.CloseRound
+      → kind_at ts i ≡ kind.OpenRound → Expression ts (i + 1) m e → kind_at ts m ≡ kind.CloseRound
       → Bracketed ts i (m + 1) e
 
 -- the action on a target
 pub data Acts (ts : List Placed) : ℕ → ℕ → ExprTree → SimpleTree → Type 0 where
   assigns : {i j : ℕ} {a e : ExprTree} (o : AssignOp)
-      → kind_at ts i ≡ kind.Assign o → Level ts 10 (i + 1) j e → Acts ts i j a (tree.Assign a o i e)
+      → kind_at ts i ≡ kind.Assign o → Expression ts (i + 1) j e
+      → Acts ts i j a (tree.Assign a o i e)
   steps : {i : ℕ} {a : ExprTree} (o : StepOp) → kind_at ts i ≡ kind.Step o
       → Acts ts i (i + 1) a (tree.Step a o i)
 
@@ -74,7 +75,7 @@ pub data FirstPart (ts : List Placed) : ℕ → ℕ → Option FirstTree → Typ
 -- an expression that may be absent
 pub data ValuePart (ts : List Placed) : ℕ → ℕ → Option ExprTree → Type 0 where
   value_none : {i : ℕ} → ValuePart ts i i None
-  value_some : {i j : ℕ} {e : ExprTree} → Level ts 10 i j e → ValuePart ts i j (Some e)
+  value_some : {i j : ℕ} {e : ExprTree} → Expression ts i j e → ValuePart ts i j (Some e)
 
 -- the third part of a `for`
 pub data ThirdPart (ts : List Placed) : ℕ → ℕ → Option SimpleTree → Type 0 where

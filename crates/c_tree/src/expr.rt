@@ -54,7 +54,7 @@ pub struct Argument {
     pub value: Expr,
 }
 
-/// An expression. The `place` of a node is that of its operator, its `[` or its word.
+/// An expression. The `place` of a node is that of its operator, its `?`, its `[` or its word.
 #[derive(Drop)]
 #[cycle(expression)]
 pub enum Expr {
@@ -92,6 +92,13 @@ pub enum Expr {
     },
     Binary {
         op: BinaryOp,
+        place: u64,
+        left: Box<Expr>,
+        right: Box<Expr>,
+    },
+    /// `CONDITION ? LEFT : RIGHT`
+    Conditional {
+        condition: Box<Expr>,
         place: u64,
         left: Box<Expr>,
         right: Box<Expr>,

@@ -23,6 +23,8 @@ pub enum Kind {
     Tilde,
     /// `->`
     Arrow,
+    Question,
+    Colon,
     Dot,
     Comma,
     Semicolon,
@@ -96,6 +98,8 @@ fn mark_kind(mark: Mark) -> Kind
         Mark::Not => Kind::Not,
         Mark::Tilde => Kind::Tilde,
         Mark::Assign => Kind::Assign(AssignOp::Set),
+        Mark::Question => Kind::Question,
+        Mark::Colon => Kind::Colon,
         Mark::Dot => Kind::Dot,
         Mark::Comma => Kind::Comma,
         Mark::Semicolon => Kind::Semicolon,

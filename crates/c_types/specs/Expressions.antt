@@ -15,7 +15,8 @@ use Rattle.c_types.specs.declared.broken.Rule.TheVariants.{UnknownName, Mismatch
 use Rattle.c_types.specs.declared.broken.Rule.TheVariants.{BadTx}
 use Rattle.c_types.specs.declared.broken.Broken.{Broken}
 use Rattle.c_types.specs.Broken.{broken_at, unless}
-use Rattle.c_types.specs.Fits.{is_any, is_int, type_takes, joins_types, applies}
+use Rattle.c_types.specs.Fits.{is_any, is_int, type_takes, comparable, common_type, joins_types}
+use Rattle.c_types.specs.Fits.{applies}
 use Rattle.c_types.specs.Tables.{Tables, index_of, struct_named, function_named, field_named}
 use Rattle.c_types.specs.Tables.{root_struct, is_length, words_at, pointer_type, declared_type}
 
@@ -105,6 +106,12 @@ element_of (Value ty) = Any
 abbrev pub type_if : Bool → ValueType → ValueType
 type_if good ty = if good then ty else Any
 
+-- the type of `c ? a : b`, of the types of its parts: the condition may have any type
+abbrev pub conditional_type : (c a b : ValueType) → ValueType
+conditional_type c a b =
+    type_if (comparable a b && (not (is_any c) && not (is_any a) && not (is_any b)))
+    (common_type a b)
+
 -- a type as it is written, in `struct NAME *` or `pm_new(struct NAME)`
 abbrev pub pointer_broken : Tables → Ident → List Broken
 pointer_broken t name = option_map_or
@@ -162,6 +169,9 @@ abbrev mutual
   kind_of t s (expr.Binary op place a b) = let x = type_of_kind (kind_of t s a) in
       let y = type_of_kind (kind_of t s b) in
       Value (type_if (joins_types op x y && not (is_any x) && not (is_any y)) Int)
+  kind_of t s (expr.Conditional c place a b) =
+      Value (conditional_type (type_of_kind (kind_of t s c)) (type_of_kind (kind_of t s a))
+      (type_of_kind (kind_of t s b)))
 
   -- each argument from place i on has a type that its parameter takes
   pub all_taken : Tables → List Scope → List ParameterTree → ℕ → Arguments → Bool
@@ -200,6 +210,10 @@ abbrev mutual
   broken_in t s (expr.Binary op place a b) = with_unindexed (broken_in t s a) (kind_of t s a)
       ++ (with_unindexed (broken_in t s b) (kind_of t s b)
       ++ unless (joins_types op (type_of t s a) (type_of t s b)) place Mismatch)
+  broken_in t s (expr.Conditional c place a b) = with_unindexed (broken_in t s c) (kind_of t s c)
+      ++ (with_unindexed (broken_in t s a) (kind_of t s a)
+      ++ (with_unindexed (broken_in t s b) (kind_of t s b)
+      ++ unless (comparable (type_of t s a) (type_of t s b)) place Mismatch))
 
   -- the arguments from place i on
   pub broken_in_all : Tables → List Scope → List ParameterTree → ℕ → Arguments → List Broken

@@ -51,7 +51,8 @@ type_takes (Pointer s) value = is_pointer_to s value
 type_takes Null value = is_null value
 type_takes Any value = true
 
--- two values may be compared: both int, pointers to the same struct, or null with a pointer or null
+-- two values may be compared, or be both sides of `?`: both int, pointers to the same struct, or
+-- null with a pointer or null
 abbrev pub comparable : ValueType → ValueType → Bool
 comparable Int b = is_int b
 comparable (Pointer s) b = is_pointer_to s b
@@ -60,6 +61,13 @@ comparable Null (Pointer s) = true
 comparable Null Null = true
 comparable Null Any = true
 comparable Any b = true
+
+-- the type of two such values together: that of the pointer where one of them is null
+abbrev pub common_type : ValueType → ValueType → ValueType
+common_type Null b = b
+common_type Int b = Int
+common_type (Pointer s) b = Pointer s
+common_type Any b = Any
 
 -- the operands that a binary operator takes: `&&` and `||` take all, `==` and `!=` take what may be
 -- compared, the others take ints

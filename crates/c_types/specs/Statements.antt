@@ -56,6 +56,7 @@ is_field (expr.Call name all) = false
 is_field (expr.New place name) = false
 is_field (expr.Unary op place a) = false
 is_field (expr.Binary op place a b) = false
+is_field (expr.Conditional c place a b) = false
 
 -- a variable, a field, and an element of a field can be assigned to; that the field is an array is
 -- the rule of `[`
@@ -70,6 +71,7 @@ is_target (expr.Call name all) = false
 is_target (expr.New place name) = false
 is_target (expr.Unary op place a) = false
 is_target (expr.Binary op place a b) = false
+is_target (expr.Conditional c place a b) = false
 
 abbrev pub simple_broken : Tables → List Scope → SimpleTree → List Broken
 simple_broken t s (stmt.Assign target op place value) =

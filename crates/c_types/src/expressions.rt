@@ -15,7 +15,7 @@ use crate::broken::{Broken, Rule, expect, note};
 use crate::fault::LimitKind;
 use crate::layout::is_length;
 use crate::program::Program;
-use crate::rules::{applies, is_any, is_int, joins_types, type_takes};
+use crate::rules::{applies, common_type, comparable, is_any, is_int, joins_types, type_takes};
 use crate::scopes::Scopes;
 use crate::value_type::{Kind, ValueType};
 use c_tree::expr::{Argument, BinaryOp, Expr, Name, UnaryOp};
@@ -65,6 +65,17 @@ pub fn kind(
             let left = value(program, scopes, left, least);
             let right = value(program, scopes, right, least);
             Kind::Value(binary(*op, *place, left, right, least))
+        }
+        Expr::Conditional {
+            condition,
+            place,
+            left,
+            right,
+        } => {
+            let tested = value(program, scopes, condition, least);
+            let left = value(program, scopes, left, least);
+            let right = value(program, scopes, right, least);
+            Kind::Value(conditional(*place, tested, left, right, least))
         }
     }
 }
@@ -389,4 +400,21 @@ fn binary(
     let joined = joins_types(op, left, right);
     expect(least, joined, place, Rule::Mismatch);
     type_if(joined && !is_any(left) && !is_any(right), ValueType::Int)
+}
+
+fn conditional(
+    place: u64,
+    tested: ValueType,
+    left: ValueType,
+    right: ValueType,
+    least: &mut Option<Broken>,
+) -> ValueType
+    ensures kind { result ≡ meaning.conditional_type tested left right }
+    ensures told { least.new ≡ least_from least.old
+        (unless (fits.comparable left right) place Rule.Mismatch) }
+{
+    let fit = comparable(left, right);
+    expect(least, fit, place, Rule::Mismatch);
+    let known = !is_any(tested) && !is_any(left) && !is_any(right);
+    type_if(fit && known, common_type(left, right))
 }

@@ -78,9 +78,9 @@ pub fn type_takes(target: ValueType, value: ValueType) -> bool
     }
 }
 
-/// Whether two values may be compared with `==`: both int, pointers to the same struct, or null
-/// with a pointer or null.
-fn comparable(left: ValueType, right: ValueType) -> bool
+/// Whether two values may be compared with `==`, or be both sides of `?`: both int, pointers to the
+/// same struct, or null with a pointer or null.
+pub fn comparable(left: ValueType, right: ValueType) -> bool
     ensures { result ≡ fits.comparable left right }
 {
     match left {
@@ -93,6 +93,18 @@ fn comparable(left: ValueType, right: ValueType) -> bool
             ValueType::Int => false,
             ValueType::Pointer(_) => true,
         },
+    }
+}
+
+/// The type of two such values together: that of the pointer where one of them is null.
+pub fn common_type(left: ValueType, right: ValueType) -> ValueType
+    ensures { result ≡ fits.common_type left right }
+{
+    match left {
+        ValueType::Null => right,
+        ValueType::Any => left,
+        ValueType::Int => left,
+        ValueType::Pointer(_) => left,
     }
 }
 

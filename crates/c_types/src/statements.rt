@@ -387,6 +387,7 @@ fn is_target(expr: &Expr) -> bool
         Expr::New { .. } => false,
         Expr::Unary { .. } => false,
         Expr::Binary { .. } => false,
+        Expr::Conditional { .. } => false,
     }
 }
 
@@ -405,5 +406,6 @@ fn is_field(expr: &Expr) -> bool
         Expr::New { .. } => false,
         Expr::Unary { .. } => false,
         Expr::Binary { .. } => false,
+        Expr::Conditional { .. } => false,
     }
 }

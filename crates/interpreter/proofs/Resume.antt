@@ -24,7 +24,6 @@ use Rattle.interpreter.specs.declared.work.StmtTask.TheVariants as stmt_task
 use Rattle.interpreter.specs.declared.work.WordTask.TheVariants as word_task
 use Rattle.interpreter.specs.declared.work.Work.{Work}
 use Rattle.interpreter.specs.declared.work.Work.TheVariants as work
-use Rattle.interpreter.specs.declared.work.Flow.TheVariants as flow
 use Rattle.c_meaning.specs.Locals.{Local, value_named, assigned}
 use Rattle.c_meaning.specs.Meaning.{Out, Got, Stops, StmtEnd, Next, Gave, Traps, Calls, then_do}
 use Rattle.c_meaning.specs.Meaning.{at_zero, tick, target_local}
@@ -40,7 +39,7 @@ use Rattle.interpreter.specs.inside.Resume.{ResumeState, Goes, calls, newest, pu
 use Rattle.interpreter.specs.inside.Resume.{pushed_all, pointer_in, index_operand, under}
 use Rattle.interpreter.specs.inside.Resume.{with_index, pushed_operands, loaded_from, condition_in}
 use Rattle.interpreter.specs.inside.Resume.{third_in, some_turns, body_end, more_turns, target_word}
-use Rattle.interpreter.specs.inside.Resume.{left_function, todo_act, ended, resume, plan_going}
+use Rattle.interpreter.specs.inside.Resume.{left_function, todo_act, resume, plan_going}
 use Rattle.interpreter.specs.inside.Resume.{right_of, right_todo, LeadsToOutcome}
 use Rattle.c_meaning.specs.Operators.{binary_of}
 use Rattle.interpreter.specs.Answers.{PlainAnswers}
@@ -67,6 +66,7 @@ resume-traps t (todo.Stmt stmt_task.Choose s ∷ xs) vs below trap = resume-trap
 resume-traps t (todo.Stmt stmt_task.Turn s ∷ xs) vs below trap = resume-traps t xs vs below trap
 resume-traps t (todo.Stmt stmt_task.Test s ∷ xs) vs below trap = resume-traps t xs vs below trap
 resume-traps t (todo.Stmt stmt_task.Again s ∷ xs) vs below trap = resume-traps t xs vs below trap
+resume-traps t (todo.Sides a b ∷ xs) vs below trap = resume-traps t xs vs below trap
 resume-traps t (todo.Arguments all ∷ xs) vs below trap = resume-traps t xs vs below trap
 resume-traps t (todo.Rest all ∷ xs) vs below trap = resume-traps t xs vs below trap
 resume-traps t (todo.Simple x ∷ xs) vs below trap = resume-traps t xs vs below trap
@@ -344,6 +344,7 @@ shaped-operands t cs (expr.Call name all) ls p k = λ vs. (refl, refl, refl)
 shaped-operands t cs (expr.New place name) ls p k = λ vs. (refl, refl, refl)
 shaped-operands t cs (expr.Unary op place a) ls p k = λ vs. (refl, refl, refl)
 shaped-operands t cs (expr.Binary op place a b) ls p k = λ vs. (refl, refl, refl)
+shaped-operands t cs (expr.Conditional c place a b) ls p k = λ vs. (refl, refl, refl)
 
 -- the operands, and then the word that they lead to
 by-load : (t : Tables) (s : ResumeState) (e : ExprTree) (o : Out (ℤ × Option ℤ)) → Shaped e o
@@ -471,6 +472,7 @@ variable-value t cs (expr.Arrow base place n) name ls p k is = cc
 variable-value t cs (expr.Index a place i) name ls p k is = cc
 variable-value t cs (expr.Unary op place a) name ls p k is = cc
 variable-value t cs (expr.Binary op place a b) name ls p k is = cc
+variable-value t cs (expr.Conditional c place a b) name ls p k is = cc
 
 -- the right side and the operator, with the left value on the stack
 by-binary : (t : Tables) (s : ResumeState) (x : Todo) (op : BinaryOp) (place : ℕ) (xs : List Todo)

@@ -166,6 +166,10 @@ mutual
   within-value t calls h (expr.Binary op place a b) ls p k n le =
       within-binary n op place (value_of t calls a ls p k) _
       (within-value t calls h a ls p k n le) (λ p k n le. within-value t calls h b ls p k n le)
+  within-value t calls h (expr.Conditional c place a b) ls p k n le =
+      within-then n (value_of t calls c ls p k) _ (within-value t calls h c ls p k n le)
+      (λ x p k le. within-zero n x (value_of t calls b ls p k) (value_of t calls a ls p k)
+      (within-value t calls h b ls p k n le) (within-value t calls h a ls p k n le))
 
   pub within-pointer : (t : Tables) (calls : Calls) (h : CallsWithin calls) (e : ExprTree)
       (ls : List Local) (p : PoolMap) (k n : ℕ)
@@ -181,6 +185,7 @@ mutual
   within-pointer t calls h (expr.Index a place i) ls p k n le = le
   within-pointer t calls h (expr.Unary op place a) ls p k n le = le
   within-pointer t calls h (expr.Binary op place a b) ls p k n le = le
+  within-pointer t calls h (expr.Conditional c place a b) ls p k n le = le
 
   pub within-values : (t : Tables) (calls : Calls) (h : CallsWithin calls) (es : Arguments)
       (ls : List Local) (p : PoolMap) (k n : ℕ)
@@ -209,6 +214,7 @@ within-operands t calls h (expr.Call name all) ls p k n le = le
 within-operands t calls h (expr.New place name) ls p k n le = le
 within-operands t calls h (expr.Unary op place a) ls p k n le = le
 within-operands t calls h (expr.Binary op place a b) ls p k n le = le
+within-operands t calls h (expr.Conditional c place a b) ls p k n le = le
 
 ends-with : {A : Type 0} (n : ℕ) (a : Out A) (f : A → PoolMap → ℕ → StmtEnd) → Within n a
     → ((x : A) (p : PoolMap) (k : ℕ) → k ≤ n → Ends n (f x p k)) → Ends n (with_value a f)

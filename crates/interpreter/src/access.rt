@@ -188,6 +188,7 @@ pub fn word_named(
         Expr::Index { .. } => Err(TrapKind::Stale),
         Expr::Unary { .. } => Err(TrapKind::Stale),
         Expr::Binary { .. } => Err(TrapKind::Stale),
+        Expr::Conditional { .. } => Err(TrapKind::Stale),
     }
 }
 

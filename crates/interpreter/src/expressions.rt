@@ -56,6 +56,15 @@ impl<'a> Run<'a> {
                 left,
                 right,
             } => self.plan_binary(*op, *place, left, right),
+            Expr::Conditional {
+                condition,
+                left,
+                right,
+                ..
+            } => {
+                self.plan(Work::Sides(left, right))?;
+                self.plan_expr(ExprTask::Eval, condition)
+            }
         }
     }
 
@@ -183,6 +192,17 @@ impl<'a> Run<'a> {
         }
         self.plan(Work::Word(WordTask::Truth))?;
         self.plan_expr(ExprTask::Eval, right)
+    }
+
+    pub fn sides(&mut self, left: &'a Expr, right: &'a Expr) -> Result<(), AllocError>
+        ensures { (t : Tables) → OnOk result
+            (resumed t self.new ≡ todo_begun t
+            (todo.Sides (expr_of left.now) (expr_of right.now)) self.old) }
+    {
+        if self.take() == 0 {
+            return self.plan_expr(ExprTask::Eval, right);
+        }
+        self.plan_expr(ExprTask::Eval, left)
     }
 
     pub fn truth(&mut self) -> Result<(), AllocError>

@@ -252,6 +252,7 @@ impl<'a> Run<'a> {
             Work::Expr(task, expr) => self.on_expr(program, task, expr)?,
             Work::Stmt(task, stmt) => return self.on_stmt(program, task, stmt),
             Work::Word(task) => self.on_word(task)?,
+            Work::Sides(left, right) => self.sides(left, right)?,
             Work::Arguments(all) => self.arguments(all)?,
             Work::Rest(all) => self.rest(all)?,
             Work::Simple(simple) => self.simple(program, simple)?,

@@ -61,6 +61,8 @@ pub enum WordTask {
 pub enum Work<'a> {
     Expr(ExprTask, &'a Expr),
     Stmt(StmtTask, &'a Stmt),
+    /// Pops the condition of `?`, and evaluates the left side or the right one.
+    Sides(&'a Expr, &'a Expr),
     /// Pushes the values of arguments, in their order.
     Arguments(&'a [Argument]),
     /// The remaining statements of a block.

@@ -66,6 +66,8 @@ mutual
       rw (kind_same t s u h base, kind_same t s u h index) refl
   kind_same t s u h (expr.Unary op place a) = rw (kind_same t s u h a) refl
   kind_same t s u h (expr.Binary op place a b) = rw (kind_same t s u h a, kind_same t s u h b) refl
+  kind_same t s u h (expr.Conditional c place a b) =
+      rw (kind_same t s u h c, kind_same t s u h a, kind_same t s u h b) refl
 
   pub taken_same : (t : Tables) (s u : List Scope) → IsSame s u
       → (ps : List ParameterTree) (i : ℕ) (es : Arguments)
@@ -99,6 +101,15 @@ mutual
   broken_same t s u h (expr.Unary op place a) = rw (broken_same t s u h a, kind_same t s u h a) refl
   broken_same t s u h (expr.Binary op place a b) =
       rw (
+        broken_same t s u h a,
+        kind_same t s u h a,
+        broken_same t s u h b,
+        kind_same t s u h b,
+      ) refl
+  broken_same t s u h (expr.Conditional c place a b) =
+      rw (
+        broken_same t s u h c,
+        kind_same t s u h c,
         broken_same t s u h a,
         kind_same t s u h a,
         broken_same t s u h b,

@@ -43,6 +43,10 @@ mutual
         form_end_le (form_of o) (exp_end b) (exp_end a p)
             (λ x. exp_end_le b x),
       )
+  exp_end_le (expr.Conditional c place a b) p =
+      let p1 : ℕ = exp_end c p in
+      let p2 : ℕ = exp_end a (suc p1) in
+      omega (arith, exp_end_le c p, exp_end_le a (suc p1), exp_end_le b (suc (suc p2)))
 
   pub target_end_le : (e : ExprTree) (p : ℕ) → p ≤ target_end e p
   target_end_le (expr.Arrow base place name) p = exp_end_le base p
@@ -56,6 +60,7 @@ mutual
   target_end_le (expr.New place name) p = omega arith
   target_end_le (expr.Unary o place a) p = omega arith
   target_end_le (expr.Binary o place a b) p = omega arith
+  target_end_le (expr.Conditional c place a b) p = omega arith
 
   pub arguments_end_le : (es : Arguments) (p : ℕ) → p ≤ arguments_end es p
   arguments_end_le expr.None p = omega arith

@@ -14,8 +14,8 @@ use Rattle.c_tree.proofs.Trees.{expr_of-Call}
 use Rattle.c_types.specs.Expressions.{type_of}
 use Rattle.ir.specs.declared.instruction.Target.{Target}
 use Rattle.ir.specs.declared.instruction.Instruction.{Instruction}
-use Rattle.ir.specs.declared.instruction.Instruction.TheVariants.{Const, Bin, Jump, Branch, Load}
-use Rattle.ir.specs.declared.instruction.Instruction.TheVariants.{New, Call, Tick}
+use Rattle.ir.specs.declared.instruction.Instruction.TheVariants.{Const, Copy, Bin, Jump, Branch}
+use Rattle.ir.specs.declared.instruction.Instruction.TheVariants.{Load, New, Call, Tick}
 use Rattle.lower.specs.declared.form.Form.TheVariants.{Both, Either, Direct, Exchanged}
 use Rattle.lower.specs.Forms.{form_of}
 use Rattle.c_tree.specs.Program.{source_line}
@@ -25,7 +25,8 @@ use Rattle.lower.specs.Lowers.{Context, exp_end, exp_code, reg_of, target_end, t
 use Rattle.lower.specs.Lowers.{target_of, arguments_end, arguments_code, registers_of, truth_code}
 use Rattle.lower.specs.Lowers.{form_end, form_code}
 use Rattle.lower.specs.inside.Added.{Put, ExprAdded, TargetAdded, ReadAdded, ArgumentsAdded}
-use Rattle.lower.specs.inside.Added.{OrAdded, RightAdded, FirstConstant}
+use Rattle.lower.specs.inside.Added.{OrAdded, RightAdded, LeftAdded, OtherAdded, FirstConstant}
+use Rattle.lower.specs.inside.Lowers.{left_code, other_end, other_code}
 
 pub one_more : (c c1 : List Instruction) (i : Instruction) → c1 ≡ c ++ i ∷ []
     → length c1 ≡ suc (length c)
@@ -262,6 +263,101 @@ binary_added k v o place a b c c1 c2 on r ha hb =
       register = hb.register;
     }
 
+-- one instruction is overwritten
+set_at : (l l1 c rest : List Instruction) (i j : Instruction) (n : ℕ) → l ≡ c ++ i ∷ rest
+    → n ≡ length c → l1 ≡ slice_set l n j → l1 ≡ c ++ j ∷ rest
+set_at l l1 c rest i j n is place e =
+    e ∙ ap (λ l. slice_set l n j) is ∙ ap (λ n. slice_set (c ++ i ∷ rest) n j) place
+    ∙ set-append_seam c i rest j
+
+pub left_added : (k : Context) (v : Variables) (a : ExprTree) (c c1 c2 c3 : List Instruction)
+    (on x n m : ℕ) → n ≡ length c → c1 ≡ c ++ Branch on 0 ∷ [] → ExprAdded k v a c1 c2 x
+    → m ≡ length c2 → c3 ≡ slice_set c2 n (Branch on (m + 2)) → LeftAdded k v on a c c3 x
+left_added k v a c c1 c2 c3 on x n m hn h1 ha hm h3 =
+    let p : ℕ = suc (length c) in
+    let q : ℕ = exp_end a p in
+    let l1 : length c1 ≡ p = one_more c c1 (Branch on 0) h1 in
+    let l2 : length c2 ≡ q = ha.long ∙ ap (exp_end a) l1 in
+    let A : List Instruction = exp_code k v a p in
+    let e2 : c2 ≡ c1 ++ A = ha.code ∙ ap (λ i. c1 ++ exp_code k v a i) l1 in
+    let s0 : c2 ≡ c ++ Branch on 0 ∷ A = seam c c1 c2 (Branch on 0 ∷ []) A h1 e2 in
+    let s3 : c3 ≡ c ++ Branch on (m + 2) ∷ A =
+    set_at c2 c3 c A (Branch on 0) (Branch on (m + 2)) n s0 hn h3 in
+    let m2 : m + 2 ≡ suc (suc q) = omega (arith, hm, l2) in
+    let same : length c3 ≡ length c2 = ap length h3 ∙ length-set c2 n (Branch on (m + 2)) in
+    record {
+      code = s3 ∙ ap (λ i. c ++ Branch on i ∷ A) m2;
+      long = same ∙ l2;
+      register = ha.register ∙ ap (reg_of k v a) (sym same);
+    }
+
+pub other_added : (k : Context) (v : Variables) (b : ExprTree)
+    (c c1 c2 c3 c4 c5 c6 : List Instruction) (x y n l to : ℕ)
+    → n ≡ length c → c1 ≡ c ++ Copy 0 x ∷ [] → c2 ≡ c1 ++ Jump 0 ∷ []
+    → ExprAdded k v b c2 c3 y → l ≡ length c3 → to ≡ k.node (l + 1)
+    → c4 ≡ c3 ++ Copy to y ∷ [] → c5 ≡ slice_set c4 n (Copy to x)
+    → c6 ≡ slice_set c5 (n + 1) (Jump (l + 1)) → OtherAdded k v x b c c6 to
+other_added k v b c c1 c2 c3 c4 c5 c6 x y n l to hn h1 h2 hb hl hto h4 h5 h6 =
+    let q : ℕ = exp_end b (suc (suc (length c))) in
+    let l1 : length c1 ≡ suc (length c) = one_more c c1 (Copy 0 x) h1 in
+    let l2 : length c2 ≡ suc (suc (length c)) = one_more c1 c2 (Jump 0) h2 ∙ ap suc l1 in
+    let l3 : length c3 ≡ q = hb.long ∙ ap (exp_end b) l2 in
+    let B : List Instruction = exp_code k v b (suc (suc (length c))) in
+    let T : List Instruction = B ++ Copy to y ∷ [] in
+    let e3 : c3 ≡ c2 ++ B = hb.code ∙ ap (λ i. c2 ++ exp_code k v b i) l2 in
+    let s2 : c4 ≡ c2 ++ T = seam c2 c3 c4 B (Copy to y ∷ []) e3 h4 in
+    let s1 : c4 ≡ c1 ++ Jump 0 ∷ T = seam c1 c2 c4 (Jump 0 ∷ []) T h2 s2 in
+    let s0 : c4 ≡ c ++ Copy 0 x ∷ Jump 0 ∷ T = seam c c1 c4 (Copy 0 x ∷ []) (Jump 0 ∷ T) h1 s1 in
+    let s5 : c5 ≡ c ++ Copy to x ∷ Jump 0 ∷ T =
+    set_at c4 c5 c (Jump 0 ∷ T) (Copy 0 x) (Copy to x) n s0 hn h5 in
+    let D : List Instruction = c ++ Copy to x ∷ [] in
+    let d : n + 1 ≡ length D = omega (arith, hn, length-append c (Copy to x ∷ [])) in
+    let s6 : c6 ≡ D ++ Jump (l + 1) ∷ T =
+    set_at c5 c6 D T (Jump 0) (Jump (l + 1)) (n + 1)
+    (s5 ∙ sym (append_assoc c (Copy to x ∷ []) (Jump 0 ∷ T))) d h6 in
+    let code : c6 ≡ c ++ Copy to x ∷ Jump (l + 1) ∷ T =
+    s6 ∙ append_assoc c (Copy to x ∷ []) (Jump (l + 1) ∷ T) in
+    let e : l + 1 ≡ suc q = omega (arith, hl, l3) in
+    let to' : to ≡ k.node (suc q) = hto ∙ ap k.node e in
+    let y' : y ≡ reg_of k v b q = hb.register ∙ ap (reg_of k v b) l3 in
+    let long : length c6 ≡ suc q =
+    ap length h6 ∙ length-set c5 (n + 1) (Jump (l + 1)) ∙ ap length h5
+    ∙ length-set c4 n (Copy to x) ∙ one_more c3 c4 (Copy to y) h4 ∙ ap suc l3 in
+    record {
+      code = code ∙ ap (λ i. c ++ Copy i x ∷ Jump (l + 1) ∷ (B ++ Copy i y ∷ [])) to'
+          ∙ ap (λ i. c ++ Copy (k.node (suc q)) x ∷ Jump i
+          ∷ (B ++ Copy (k.node (suc q)) y ∷ [])) e
+          ∙ ap (λ i. c ++ Copy (k.node (suc q)) x ∷ Jump (suc q)
+          ∷ (B ++ Copy (k.node (suc q)) i ∷ [])) y';
+      long = long;
+      register = to' ∙ ap k.node (sym long);
+    }
+
+pub conditional_added : (k : Context) (v : Variables) (x : ExprTree) (place : ℕ) (a b : ExprTree)
+    (c c1 c2 c3 : List Instruction) (on y r : ℕ)
+    → ExprAdded k v x c c1 on → LeftAdded k v on a c1 c2 y → OtherAdded k v y b c2 c3 r
+    → ExprAdded k v (expr.Conditional x place a b) c c3 r
+conditional_added k v x place a b c c1 c2 c3 on y r hx ha hb =
+    let X : List Instruction = exp_code k v x (length c) in
+    let p : ℕ = exp_end x (length c) in
+    let q : ℕ = exp_end a (suc p) in
+    let l2 : length c2 ≡ q = ha.long ∙ ap (λ n. exp_end a (suc n)) hx.long in
+    let on' : on ≡ reg_of k v x p = hx.register ∙ ap (reg_of k v x) hx.long in
+    let y' : y ≡ reg_of k v a q = ha.register ∙ ap (reg_of k v a) l2 in
+    let A : List Instruction = left_code k v (reg_of k v x p) a p in
+    let e2 : c2 ≡ c1 ++ A = ha.code ∙ ap (λ n. c1 ++ left_code k v n a (length c1)) on'
+    ∙ ap (λ n. c1 ++ left_code k v (reg_of k v x p) a n) hx.long in
+    let e3 : c3 ≡ c2 ++ other_code k v (reg_of k v a q) b q =
+    hb.code ∙ ap (λ n. c2 ++ other_code k v n b (length c2)) y'
+    ∙ ap (λ n. c2 ++ other_code k v (reg_of k v a q) b n) l2 in
+    let s1 : c3 ≡ c1 ++ (A ++ other_code k v (reg_of k v a q) b q) =
+    seam c1 c2 c3 A (other_code k v (reg_of k v a q) b q) e2 e3 in
+    record {
+      code = seam c c1 c3 X (A ++ other_code k v (reg_of k v a q) b q) hx.code s1;
+      long = hb.long ∙ ap (other_end b) l2;
+      register = hb.register;
+    }
+
 pub outcome_added : (on to n : ℕ) (c c1 c2 c3 c4 : List Instruction) → n ≡ length c
     → c1 ≡ c ++ Branch on (n + 3) ∷ [] → c2 ≡ c1 ++ Const to (pos 1) ∷ []
     → c3 ≡ c2 ++ Jump (n + 4) ∷ [] → c4 ≡ c3 ++ Const to (pos 0) ∷ []
@@ -445,5 +541,7 @@ pub ruleset expressions = (
   binary_added,
   both_added,
   either_added,
+  left_added,
+  conditional_added,
   outcome_added,
 )

@@ -1,5 +1,5 @@
 -- The code of expressions that break no rule names only what exists.
-use Rattle.std.proofs.Common.{◌≡◌, ℕ, suc, ◌+◌, ◌≤◌, ◌<◌, Bool, true, false, List, [], ◌++◌}
+use Rattle.std.proofs.Common.{◌≡◌, ℕ, suc, ◌+◌, ◌≤◌, ◌<◌, Bool, true, List, [], ◌++◌}
 use Rattle.std.proofs.Common.{length, map, refl, sym, ap, subst, ◌∙◌, arith, rules}
 use Rattle.std.specs.Prelude.{nat_eq, ◌&&◌, ◌||◌, not, if◌then◌else◌, is_some, slice_get, Option}
 use Rattle.std.specs.Prelude.{None, Some, option_map, option_and_then}
@@ -192,6 +192,7 @@ IsPlace (expr.Call name all) = ⊥
 IsPlace (expr.New place name) = ⊥
 IsPlace (expr.Unary op place a) = ⊥
 IsPlace (expr.Binary op place a b) = ⊥
+IsPlace (expr.Conditional c place a b) = ⊥
 
 pub value_array : (ty el : ValueType) (place : ℕ) → Value ty ≡ Array el place → ⊥
 value_array ty el place e = cc
@@ -208,6 +209,7 @@ array_place t s (expr.Call name all) el place is = value_array _ el place is
 array_place t s (expr.New broken_at name) el place is = value_array _ el place is
 array_place t s (expr.Unary op broken_at a) el place is = value_array _ el place is
 array_place t s (expr.Binary op broken_at a b) el place is = value_array _ el place is
+array_place t s (expr.Conditional c broken_at a b) el place is = value_array _ el place is
 
 -- if an expression breaks no rule, neither do its parts
 pub arrow_parts : (t : Tables) (s : List Scope) (base : ExprTree) (place : ℕ) (name : Ident)
@@ -253,6 +255,7 @@ reg_below k ir r n v (expr.Arrow base place name) q h a b lt = h.below q lt
 reg_below k ir r n v (expr.Index base place index) q h a b lt = h.below q lt
 reg_below k ir r n v (expr.Unary o place x) q h a b lt = h.below q lt
 reg_below k ir r n v (expr.Binary o place x y) q h a b lt = h.below q lt
+reg_below k ir r n v (expr.Conditional c place x y) q h a b lt = h.below q lt
 
 -- a call names a function with as many parameters
 length_registers : (k : Context) (v : Variables) (es : Arguments) (p : ℕ)
@@ -491,6 +494,43 @@ mutual
       (λ z less. exp_sound k ir r n v y z h a w less) (λ z. exp_end_le y z) (λ z less.
       reg_below k ir r n v y z h a (none_left (broken_in t s y) _ w) less)
       (reg_below k ir r n v x q h a (none_left (broken_in t s x) _ u) (omega (arith, lt, le))) lt)
+  exp_sound k ir r n v (expr.Conditional c place x y) p h a b lt =
+      let t : Tables = k.tables in
+      let s : List Scope = v.scopes in
+      let p1 : ℕ = exp_end c p in
+      let p2 : ℕ = exp_end x (suc p1) in
+      let p3 : ℕ = exp_end y (suc (suc p2)) in
+      let own : broken_in t s (expr.Conditional c place x y) ≡ [] =
+      none_left (broken_in t s (expr.Conditional c place x y)) _ b in
+      let sides = none_right (value_broken t s c) _ own in
+      let bc : value_broken t s c ≡ [] = unary_part t s c _ own in
+      let bl : value_broken t s x ≡ [] = unary_part t s x _ sides in
+      let br : value_broken t s y ≡ [] =
+      unary_part t s y _ (none_right (value_broken t s x) _ sides) in
+      let le1 : suc p1 ≤ p2 = exp_end_le x (suc p1) in
+      let le2 : suc (suc p2) ≤ p3 = exp_end_le y (suc (suc p2)) in
+      let to : k.node (suc p3) < r = h.below (suc p3) lt in
+      let reg_c : reg_of k v c p1 < r =
+      reg_below k ir r n v c p1 h a (none_left (broken_in t s c) _ bc)
+      (omega (arith, lt, le1, le2)) in
+      let reg_x : reg_of k v x p2 < r =
+      reg_below k ir r n v x p2 h a (none_left (broken_in t s x) _ bl) (omega (arith, lt, le2)) in
+      let reg_y : reg_of k v y p3 < r =
+      reg_below k ir r n v y p3 h a (none_left (broken_in t s y) _ br) (omega (arith, lt)) in
+      all_append (IsInstruction ir r n) (exp_code k v c p) _
+      (exp_sound k ir r n v c p h a bc (omega (arith, lt, le1, le2))) (
+        (reg_c, omega (arith, lt, le2)),
+        all_append (IsInstruction ir r n) (exp_code k v x (suc p1)) _
+            (exp_sound k ir r n v x (suc p1) h a bl (omega (arith, lt, le2))) (
+              (to, reg_x),
+              (
+                lt,
+                all_append (IsInstruction ir r n) (exp_code k v y (suc (suc p2))) _
+                    (exp_sound k ir r n v y (suc (suc p2)) h a br (omega (arith, lt)))
+                    ((to, reg_y), tt),
+              ),
+            ),
+      )
 
   pub target_sound : (k : Context) (ir : Ir) (r n : ℕ) (v : Variables) (e : ExprTree) (p : ℕ)
       → IsPlaced k ir r n → Agree k.tables r v.scopes v.locals → IsPlace e
@@ -535,6 +575,7 @@ mutual
   target_sound k ir r n v (expr.New place name) p h a is b lt = absurd is
   target_sound k ir r n v (expr.Unary o place x) p h a is b lt = absurd is
   target_sound k ir r n v (expr.Binary o place x y) p h a is b lt = absurd is
+  target_sound k ir r n v (expr.Conditional c place x y) p h a is b lt = absurd is
 
   pub arguments_sound : (k : Context) (ir : Ir) (r n : ℕ) (v : Variables) (ps : List ParameterTree)
       (i : ℕ) (es : Arguments) (p : ℕ) → IsPlaced k ir r n → Agree k.tables r v.scopes v.locals

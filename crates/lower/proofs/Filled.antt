@@ -108,6 +108,18 @@ mutual
   exp_filled k v (expr.Binary o at a b) p h place lt =
       binary_filled (form_of o) k v a b p h place lt
       (λ x. exp_filled k v b x h place) (λ less. exp_filled k v a p h place less)
+  exp_filled k v (expr.Conditional c at a b) p h place lt =
+      let p1 : ℕ = exp_end c p in
+      let p2 : ℕ = exp_end a (suc p1) in
+      let le1 : suc p1 ≤ p2 = exp_end_le a (suc p1) in
+      let le2 : suc (suc p2) ≤ exp_end b (suc (suc p2)) = exp_end_le b (suc (suc p2)) in
+      simp (
+        map-append,
+        exp_filled k v c p h place (omega arith),
+        exp_filled k v a (suc p1) h place (omega arith),
+        exp_filled k v b (suc (suc p2)) h place (omega arith),
+        to_place_same h place (suc (exp_end b (suc (suc p2)))) lt,
+      )
 
   pub target_filled : (k : Context) (v : Variables) (e : ExprTree) (p h place : ℕ)
       → target_end e p < h → map (hole_filled h place) (target_code k v e p) ≡ target_code k v e p
@@ -128,6 +140,7 @@ mutual
   target_filled k v (expr.New at name) p h place lt = refl
   target_filled k v (expr.Unary o at a) p h place lt = refl
   target_filled k v (expr.Binary o at a b) p h place lt = refl
+  target_filled k v (expr.Conditional c at a b) p h place lt = refl
 
   pub arguments_filled : (k : Context) (v : Variables) (es : Arguments) (p h place : ℕ)
       → arguments_end es p < h → map (hole_filled h place) (arguments_code k v es p)

@@ -21,7 +21,8 @@ use Rattle.c_types.specs.declared.broken.Rule.TheVariants.{UnknownName, Mismatch
 use Rattle.c_types.specs.declared.broken.Rule.TheVariants.{BadTx}
 use Rattle.c_types.specs.declared.fault.LimitKind.TheVariants as limit
 use Rattle.c_types.specs.Broken.{broken_at, unless}
-use Rattle.c_types.specs.Fits.{is_any, is_int, type_takes, joins_types, applies}
+use Rattle.c_types.specs.Fits.{is_any, is_int, type_takes, comparable, common_type, joins_types}
+use Rattle.c_types.specs.Fits.{applies}
 use Rattle.c_types.specs.Tables.{Tables, StructTree, index_of, struct_named, function_named}
 use Rattle.c_types.specs.Tables.{field_named, root_struct, is_length, words_of_struct, words_at}
 use Rattle.c_types.specs.Tables.{pointer_type, declared_type, field_names, function_names, is_first}
@@ -321,6 +322,13 @@ call_good t name (Some f) n place taken h is e all =
     × (slice_get t.functions i ≡ Some f) = function_there t name f is in
     rw (may.1, all) (result_good t f.result_type may.0 (h.results there.0 f there.2))
 
+common_good : (t : Tables) (x y : ValueType) → IsGood t x → IsGood t y
+    → IsGood t (common_type x y)
+common_good t Null y gx gy = gy
+common_good t Int y gx gy = gx
+common_good t (Pointer i) y gx gy = gx
+common_good t Any y gx gy = gx
+
 mutual
   -- an expression that breaks no rule denotes something good
   pub kind_good : (t : Tables) (r : ℕ) (v : Variables) (e : ExprTree) → IsSane t
@@ -405,6 +413,34 @@ mutual
       holds (joins_types op (type_of t s x) (type_of t s y)) place Mismatch
       (none_right (with_unindexed (broken_in t s y) (kind_of t s y)) _ rest) in
       rw (good, good_any t (type_of t s x) gx, good_any t (type_of t s y) gy) tt
+  kind_good t r v (expr.Conditional c place x y) h a b =
+      let s : List Scope = v.scopes in
+      let sides = none_right (with_unindexed (broken_in t s c) (kind_of t s c)) _ b in
+      let rest = none_right (with_unindexed (broken_in t s x) (kind_of t s x)) _ sides in
+      let bc : with_unindexed (broken_in t s c) (kind_of t s c) ≡ [] =
+      none_left (with_unindexed (broken_in t s c) (kind_of t s c)) _ b in
+      let bl : with_unindexed (broken_in t s x) (kind_of t s x) ≡ [] =
+      none_left (with_unindexed (broken_in t s x) (kind_of t s x)) _ sides in
+      let br : with_unindexed (broken_in t s y) (kind_of t s y) ≡ [] =
+      none_left (with_unindexed (broken_in t s y) (kind_of t s y)) _ rest in
+      let gc : IsGood t (type_of t s c) =
+      value_good t (broken_in t s c) (kind_of t s c)
+      (kind_good t r v c h a (none_left (broken_in t s c) _ bc)) bc in
+      let gx : IsGood t (type_of t s x) =
+      value_good t (broken_in t s x) (kind_of t s x)
+      (kind_good t r v x h a (none_left (broken_in t s x) _ bl)) bl in
+      let gy : IsGood t (type_of t s y) =
+      value_good t (broken_in t s y) (kind_of t s y)
+      (kind_good t r v y h a (none_left (broken_in t s y) _ br)) br in
+      let good : comparable (type_of t s x) (type_of t s y) ≡ true =
+      holds (comparable (type_of t s x) (type_of t s y)) place Mismatch
+      (none_right (with_unindexed (broken_in t s y) (kind_of t s y)) _ rest) in
+      rw (
+        good,
+        good_any t (type_of t s c) gc,
+        good_any t (type_of t s x) gx,
+        good_any t (type_of t s y) gy,
+      ) (common_good t (type_of t s x) (type_of t s y) gx gy)
 
   all_good : (t : Tables) (r : ℕ) (v : Variables) (ps : List ParameterTree) (i : ℕ) (es : Arguments)
       → IsSane t → Agree t r v.scopes v.locals → broken_in_all t v.scopes ps i es ≡ []

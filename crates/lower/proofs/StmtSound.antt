@@ -69,6 +69,7 @@ target_place (expr.Call name all) is e = absurd (false≢true e)
 target_place (expr.New place name) is e = absurd (false≢true e)
 target_place (expr.Unary o place a) is e = absurd (false≢true e)
 target_place (expr.Binary o place a b) is e = absurd (false≢true e)
+target_place (expr.Conditional c place a b) is e = absurd (false≢true e)
 
 variable_below : (k : Context) (r : ℕ) (v : Variables) (e : ExprTree) (name : Ident)
     → Agree k.tables r v.scopes v.locals → variable_of e ≡ Some name
@@ -87,6 +88,7 @@ variable_below k r v (expr.Call x all) name a is b = absurd (none-some name is)
 variable_below k r v (expr.New place x) name a is b = absurd (none-some name is)
 variable_below k r v (expr.Unary o place x) name a is b = absurd (none-some name is)
 variable_below k r v (expr.Binary o place x y) name a is b = absurd (none-some name is)
+variable_below k r v (expr.Conditional c place x y) name a is b = absurd (none-some name is)
 
 place_sound : (k : Context) (ir : Ir) (r n : ℕ) (v : Variables) (e : ExprTree) (p : ℕ)
     → IsPlaced k ir r n → Agree k.tables r v.scopes v.locals → variable_of e ≡ None

@@ -59,6 +59,8 @@ abbrev mutual
   exp_end (expr.Unary unary.Complement place a) p = suc (exp_end a (suc p))
   exp_end (expr.Unary unary.Not place a) p = suc (suc (exp_end a p))
   exp_end (expr.Binary o place a b) p = form_end (form_of o) (exp_end b) (exp_end a p)
+  exp_end (expr.Conditional c place a b) p =
+      suc (exp_end b (suc (suc (exp_end a (suc (exp_end c p))))))
 
   -- the end of the code of the base and the index of a field or an element
   pub target_end : ExprTree → ℕ → ℕ
@@ -72,6 +74,7 @@ abbrev mutual
   target_end (expr.New place name) p = p
   target_end (expr.Unary o place a) p = p
   target_end (expr.Binary o place a b) p = p
+  target_end (expr.Conditional c place a b) p = p
 
   pub arguments_end : Arguments → ℕ → ℕ
   arguments_end expr.None p = p
@@ -89,6 +92,7 @@ reg_of s v (expr.Arrow base place name) q = s.node q
 reg_of s v (expr.Index base place index) q = s.node q
 reg_of s v (expr.Unary o place a) q = s.node q
 reg_of s v (expr.Binary o place a b) q = s.node q
+reg_of s v (expr.Conditional c place a b) q = s.node q
 
 -- the registers of arguments whose code begins at p
 abbrev pub registers_of : Context → Variables → Arguments → ℕ → List ℕ
@@ -111,6 +115,7 @@ target_of s v (expr.Call name all) p = no_target
 target_of s v (expr.New place name) p = no_target
 target_of s v (expr.Unary o place a) p = no_target
 target_of s v (expr.Binary o place a b) p = no_target
+target_of s v (expr.Conditional c place a b) p = no_target
 
 -- 1 if a register isn't 0, else 0
 abbrev pub truth_code : (on to p : ℕ) → List Instruction
@@ -170,6 +175,14 @@ abbrev mutual
       let q : ℕ = exp_end a p in
       exp_code s v a p ++ form_code (form_of o) s.node (exp_code s v b) (exp_end b) (reg_of s v b)
       (reg_of s v a q) q
+  -- a branch over the left side, and behind each side a copy to one register
+  exp_code s v (expr.Conditional c place a b) p =
+      let p1 : ℕ = exp_end c p in
+      let p2 : ℕ = exp_end a (suc p1) in
+      let p3 : ℕ = exp_end b (suc (suc p2)) in
+      exp_code s v c p ++ (Branch (reg_of s v c p1) (suc (suc p2)) ∷ (exp_code s v a (suc p1)
+      ++ Copy (s.node (suc p3)) (reg_of s v a p2) ∷ Jump (suc p3)
+      ∷ (exp_code s v b (suc (suc p2)) ++ Copy (s.node (suc p3)) (reg_of s v b p3) ∷ [])))
 
   -- the code of the base and of the index of a field or an element
   pub target_code : Context → Variables → ExprTree → ℕ → List Instruction
@@ -184,6 +197,7 @@ abbrev mutual
   target_code s v (expr.New place name) p = []
   target_code s v (expr.Unary o place a) p = []
   target_code s v (expr.Binary o place a b) p = []
+  target_code s v (expr.Conditional c place a b) p = []
 
   pub arguments_code : Context → Variables → Arguments → ℕ → List Instruction
   arguments_code s v expr.None p = []

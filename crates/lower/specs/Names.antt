@@ -112,3 +112,4 @@ variable_of (expr.Arrow base place name) = None
 variable_of (expr.Index base place index) = None
 variable_of (expr.Unary op place a) = None
 variable_of (expr.Binary op place a b) = None
+variable_of (expr.Conditional c place a b) = None

@@ -7,7 +7,8 @@ ghost use Rattle.c_tree.specs.ExprTree as tree;
 ghost use Rattle.ir.specs.declared.instruction.Instruction.TheVariants as put;
 ghost use Rattle.lower.specs.declared.form.Form.TheVariants as form;
 ghost use Rattle.lower.specs.inside.Added.{Put, ExprAdded, RightAdded, TargetAdded, ReadAdded};
-ghost use Rattle.lower.specs.inside.Added.{ArgumentsAdded, OrAdded, context_of};
+ghost use Rattle.lower.specs.inside.Added.{LeftAdded, OtherAdded, ArgumentsAdded, OrAdded};
+ghost use Rattle.lower.specs.inside.Added.{context_of};
 ghost use Rattle.c_tree.specs.Program.{source_line};
 ghost use Rattle.c_types.specs.Views.{tables_in};
 ghost use Rattle.lower.specs.inside.Added as added;
@@ -55,6 +56,16 @@ pub fn add_expression(
         } => {
             let on = add_expression(source, variables, code, left)?;
             add_right(source, variables, code, *op, on, right)
+        }
+        Expr::Conditional {
+            condition,
+            left,
+            right,
+            ..
+        } => {
+            let on = add_expression(source, variables, code, condition)?;
+            let left = add_left_side(source, variables, code, on, left)?;
+            add_right_side(source, variables, code, left, right)
         }
     }
 }
@@ -236,6 +247,7 @@ pub fn add_target(
         Expr::New { .. } => Ok(no_target()),
         Expr::Unary { .. } => Ok(no_target()),
         Expr::Binary { .. } => Ok(no_target()),
+        Expr::Conditional { .. } => Ok(no_target()),
     }
 }
 
@@ -358,6 +370,54 @@ fn add_either(
     add_outcome(code, right, to)?;
     let place = second + 1;
     code.set(first + 1, Instruction::Jump { place });
+    Ok(to)
+}
+
+/// Appends the left side of `?` behind a branch over it; the condition is in the register `on`.
+#[cycle(expressions)]
+#[tactic(auto, using(crate::proofs::ExprAdds::expressions))]
+fn add_left_side(
+    source: &Source<'_, '_>,
+    variables: &Variables<'_>,
+    code: &mut Code,
+    on: u32,
+    left: &Expr,
+) -> Result<u32, AllocError>
+    ensures { IfOk result (λ r. LeftAdded (context_of source.now) variables.now on
+        (expr_of left.now) code.old code.new r) }
+{
+    let first = code.end();
+    code.push(Instruction::Branch { on, place: 0 })?;
+    let left = add_expression(source, variables, code, left)?;
+    let place = code.end() + 2;
+    code.set(first, Instruction::Branch { on, place });
+    Ok(left)
+}
+
+/// Appends the right side of `?`, and behind each side a copy to the same register; the left side
+/// is in the register `left`.
+#[cycle(expressions)]
+#[tactic(auto, using(crate::proofs::ExprAdds::expressions))]
+fn add_right_side(
+    source: &Source<'_, '_>,
+    variables: &Variables<'_>,
+    code: &mut Code,
+    left: u32,
+    right: &Expr,
+) -> Result<u32, AllocError>
+    ensures { IfOk result (λ r. OtherAdded (context_of source.now) variables.now left
+        (expr_of right.now) code.old code.new r) }
+{
+    let second = code.end();
+    code.push(Instruction::Copy { to: 0, from: left })?;
+    code.push(Instruction::Jump { place: 0 })?;
+    let from = add_expression(source, variables, code, right)?;
+    let last = code.end();
+    let to = source.register(last + 1);
+    code.push(Instruction::Copy { to, from })?;
+    code.set(second, Instruction::Copy { to, from: left });
+    let place = last + 1;
+    code.set(second + 1, Instruction::Jump { place });
     Ok(to)
 }
 

@@ -149,5 +149,6 @@ pub fn as_variable(expr: &Expr) -> Option<&Name>
         Expr::Index { .. } => None,
         Expr::Unary { .. } => None,
         Expr::Binary { .. } => None,
+        Expr::Conditional { .. } => None,
     }
 }

@@ -163,6 +163,13 @@ module _ (k : Context) (ir : Ir) (sane : IsSane k.tables) (shaped : ir.shapes �
       exp_fits c (own c (none_left (value_broken k.tables v.scopes c) _
           (none_right (value_broken k.tables v.scopes a) _ b))),
     )
+    exp_fits (expr.Conditional c place a d) b =
+        let sides = none_right (value_broken k.tables v.scopes c) _ b in
+        let rest = none_right (value_broken k.tables v.scopes a) _ sides in (
+          exp_fits c (own c (none_left (value_broken k.tables v.scopes c) _ b)),
+          exp_fits a (own a (none_left (value_broken k.tables v.scopes a) _ sides)),
+          exp_fits d (own d (none_left (value_broken k.tables v.scopes d) _ rest)),
+        )
 
     -- an array, one of whose elements is meant
     pointer_fits : (e : ExprTree) (el : ValueType) (place : ℕ)
@@ -180,6 +187,7 @@ module _ (k : Context) (ir : Ir) (sane : IsSane k.tables) (shaped : ir.shapes �
     pointer_fits (expr.Index base place index) el at is b = absurd (value_array _ el at is)
     pointer_fits (expr.Unary o place a) el at is b = value_array _ el at is
     pointer_fits (expr.Binary o place a c) el at is b = value_array _ el at is
+    pointer_fits (expr.Conditional c place a d) el at is b = value_array _ el at is
 
     pub arguments_fit : (ps : List ParameterTree) (i : ℕ) (all : Arguments)
         → broken_in_all k.tables v.scopes ps i all ≡ [] → ArgumentsFit k ir v es all
@@ -210,6 +218,7 @@ module _ (k : Context) (ir : Ir) (sane : IsSane k.tables) (shaped : ir.shapes �
   target_fits (expr.New place name) is b = absurd (false≢true is)
   target_fits (expr.Unary o place a) is b = absurd (false≢true is)
   target_fits (expr.Binary o place a c) is b = absurd (false≢true is)
+  target_fits (expr.Conditional c place a d) is b = absurd (false≢true is)
 
   -- the operand of `pm_free`
   pub free_fits : (e : ExprTree) → value_broken k.tables v.scopes e ≡ []

@@ -14,11 +14,12 @@ use Rattle.c_meaning.specs.Locals.{Local, value_named}
 use Rattle.c_meaning.specs.Operators.{unary_of}
 use Rattle.c_meaning.specs.Access.{new_object}
 use Rattle.c_meaning.specs.Meaning as meaning
-use Rattle.c_meaning.specs.Meaning.{Out, Got, Stops, Calls, then_do, loaded, made, tick, called}
-use Rattle.c_meaning.specs.Meaning.{value_of, pointer_of, values_of, placed_trap}
+use Rattle.c_meaning.specs.Meaning.{Out, Got, Stops, Calls, then_do, at_zero, loaded, made, tick}
+use Rattle.c_meaning.specs.Meaning.{called, value_of, pointer_of, values_of, placed_trap}
 use Rattle.ir.specs.declared.instruction.Target.{Target}
 use Rattle.ir.specs.declared.instruction.Instruction.{Instruction}
-use Rattle.ir.specs.declared.instruction.Instruction.TheVariants.{Const, Bin, Load, Call, Tick}
+use Rattle.ir.specs.declared.instruction.Instruction.TheVariants.{Const, Copy, Bin, Jump, Branch}
+use Rattle.ir.specs.declared.instruction.Instruction.TheVariants.{Load, Call, Tick}
 use Rattle.ir.specs.declared.function.Ir.{Ir}
 use Rattle.lower.specs.Forms.{form_of}
 use Rattle.lower.specs.Names.{Variables, register_of, function_number, kind_named, element_target}
@@ -37,6 +38,7 @@ use Rattle.lower_law.proofs.Fits.{WordFits, ExpFits, PointerFits, ArgumentsFit}
 use Rattle.lower_law.proofs.ExprSteps.{CallsRun, form_value, form_means, element_fits, element_base}
 use Rattle.lower_law.proofs.ExprSteps.{element_index, grows, Gives, word_at, words_at, base_at}
 use Rattle.lower_law.proofs.ExprSteps.{after, gives_then, put_same, puts, field_gives, stays}
+use Rattle.lower_law.proofs.ExprSteps.{at_branch, branch_gives, hands_on, copy_gives, copy_jumps}
 use Rattle.lower_law.proofs.ExprSteps.{tick_gives, form_runs}
 
 module _ (ir : Ir) (m f : ℕ) (k : Context) (rises : (p q : ℕ) → p < q → k.node p < k.node q)
@@ -72,6 +74,7 @@ module _ (ir : Ir) (m f : ℕ) (k : Context) (rises : (p q : ℕ) → p < q → 
     reg_le (expr.Index base place index) p q le under fits = omega arith
     reg_le (expr.Unary o place a) p q le under fits = omega arith
     reg_le (expr.Binary o place a b) p q le under fits = omega arith
+    reg_le (expr.Conditional c place a b) p q le under fits = omega arith
 
     -- the base of an element keeps its value
     pub pointer_kept : (a : ExprTree) (p : ℕ) (regs regs1 : List ℤ) → AreBelow (k.node p) es
@@ -89,6 +92,7 @@ module _ (ir : Ir) (m f : ℕ) (k : Context) (rises : (p q : ℕ) → p < q → 
     pointer_kept (expr.Index base place index) p regs regs1 under fits same = absurd fits
     pointer_kept (expr.Unary o place a) p regs regs1 under fits same = absurd fits
     pointer_kept (expr.Binary o place a b) p regs regs1 under fits same = absurd fits
+    pointer_kept (expr.Conditional c place a b) p regs regs1 under fits same = absurd fits
 
     pub pointer_word : (a : ExprTree) (p : ℕ) → PointerFits k ir v es a
         → WordFits k.tables ir.shapes es a (target_of k v a p)
@@ -102,6 +106,7 @@ module _ (ir : Ir) (m f : ℕ) (k : Context) (rises : (p q : ℕ) → p < q → 
     pointer_word (expr.Index base place index) p fits = absurd fits
     pointer_word (expr.Unary o place a) p fits = absurd fits
     pointer_word (expr.Binary o place a b) p fits = absurd fits
+    pointer_word (expr.Conditional c place a b) p fits = absurd fits
 
     mutual
       pub exp_runs : (e : ExprTree) (p : ℕ) (rest : List Instruction) (regs : List ℤ) (w : PoolMap)
@@ -318,6 +323,47 @@ module _ (ir : Ir) (m f : ℕ) (k : Context) (rises : (p q : ℕ) → p < q → 
           (λ z r lez hz. exp_runs b z r regs1 w1 t1 fits.1 hz
           (ready_after q z regs1 regs1 lez (λ r small. refl) ready1))
           (reg_le a p q le ready.under fits.0) e1 hq))
+      exp_runs (expr.Conditional c place a b) p rest regs w t fits h ready =
+          let p1 : ℕ = exp_end c p in
+          let p2 : ℕ = exp_end a (suc p1) in
+          let q : ℕ = suc (suc p2) in
+          let p3 : ℕ = exp_end b q in
+          let end : ℕ = suc p3 in
+          let rc : ℕ = reg_of k v c p1 in
+          let ra : ℕ = reg_of k v a p2 in
+          let rb : ℕ = reg_of k v b p3 in
+          let to : ℕ = k.node end in
+          let last : List Instruction = Copy to rb ∷ rest in
+          let left : List Instruction = Copy to ra ∷ Jump end ∷ (exp_code k v b q ++ last) in
+          let all : List Instruction = Branch rc q ∷ (exp_code k v a (suc p1) ++ left) in
+          let hc : HasAt ir f p (exp_code k v c p ++ all) = simp append_assoc at h in
+          let h1 : HasAt ir f p1 all = exp_has ir f k v c p all hc in
+          let h2 : HasAt ir f p2 left = exp_has ir f k v a (suc p1) left h1.1 in
+          let h3 : HasAt ir f p3 last = exp_has ir f k v b q last h2.1.1 in
+          let le1 : p ≤ p1 = exp_end_le c p in
+          let le2 : suc p1 ≤ p2 = exp_end_le a (suc p1) in
+          let le3 : q ≤ p3 = exp_end_le b q in
+          gives_then ir m f k rises below (word_at ir m f k rises below rc)
+          (word_at ir m f k rises below to) p p1 end regs w t (value_of k.tables calls c ls w t)
+          (λ x w t. at_zero x (value_of k.tables calls b ls w t) (value_of k.tables calls a ls w t))
+          le1 (omega (arith, le2, le3)) (exp_runs c p all regs w t fits.0 hc ready)
+          (λ x w1 t1 regs1 s1 e1. let ready1 : Ready p1 regs1 = ready_after p p1 regs regs1 le1
+          s1 ready in
+          branch_gives ir m f k rises below (word_at ir m f k rises below to) p1 q end x regs1 w1 t1
+          (value_of k.tables calls b ls w1 t1) (value_of k.tables calls a ls w1 t1)
+          (omega (arith, le2)) (at_branch ir m f k rises below p1 q rc x regs1 w1 t1 h1.0 e1)
+          (hands_on ir m f k rises below rb to q p3 end regs1 w1 t1
+          (value_of k.tables calls b ls w1 t1) le3 (omega arith)
+          (exp_runs b q last regs1 w1 t1 fits.2 h2.1.1
+          (ready_after p1 q regs1 regs1 (omega (arith, le2)) (λ r small. refl) ready1))
+          (λ u w2 t2 regs2 e2. copy_gives ir m f k rises below p3 end rb u regs2 w2 t2
+          (omega arith) h3.0 e2))
+          (hands_on ir m f k rises below ra to (suc p1) p2 end regs1 w1 t1
+          (value_of k.tables calls a ls w1 t1) le2 (omega (arith, le3))
+          (exp_runs a (suc p1) left regs1 w1 t1 fits.1 h1.1
+          (ready_after p1 (suc p1) regs1 regs1 (omega arith) (λ r small. refl) ready1))
+          (λ u w2 t2 regs2 e2. copy_jumps ir m f k rises below p2 end ra u regs2 w2 t2
+          (omega (arith, le3)) h2.0 h2.1.0 e2)))
 
       pub pointer_runs : (a : ExprTree) (p : ℕ) (rest : List Instruction) (regs : List ℤ)
           (w : PoolMap) (t : ℕ) → PointerFits k ir v es a
@@ -339,6 +385,7 @@ module _ (ir : Ir) (m f : ℕ) (k : Context) (rises : (p q : ℕ) → p < q → 
       pointer_runs (expr.Index base place index) p rest regs w t fits h ready = absurd fits
       pointer_runs (expr.Unary o place a) p rest regs w t fits h ready = absurd fits
       pointer_runs (expr.Binary o place a b) p rest regs w t fits h ready = absurd fits
+      pointer_runs (expr.Conditional c place a b) p rest regs w t fits h ready = absurd fits
 
       pub arguments_run : (all : Arguments) (p : ℕ) (rest : List Instruction) (regs : List ℤ)
           (w : PoolMap) (t : ℕ) → ArgumentsFit k ir v es all

@@ -21,8 +21,8 @@ use Rattle.c_meaning.specs.Meaning.{binary_means, placed_trap, at_target}
 use Rattle.ir.specs.declared.instruction.Target.{Target}
 use Rattle.ir.specs.declared.instruction.Target.TheVariants as aim
 use Rattle.ir.specs.declared.instruction.Instruction.{Instruction}
-use Rattle.ir.specs.declared.instruction.Instruction.TheVariants.{Const, Bin, Jump, Branch, Load}
-use Rattle.ir.specs.declared.instruction.Instruction.TheVariants.{Call, Tick}
+use Rattle.ir.specs.declared.instruction.Instruction.TheVariants.{Const, Copy, Bin, Jump, Branch}
+use Rattle.ir.specs.declared.instruction.Instruction.TheVariants.{Load, Call, Tick}
 use Rattle.ir.specs.declared.function.Ir.{Ir}
 use Rattle.lower.specs.declared.form.Form.{Form}
 use Rattle.lower.specs.declared.form.Form.TheVariants.{Both, Either, Direct, Exchanged}
@@ -262,6 +262,35 @@ module _ (ir : Ir) (m f : ℕ) (k : Context) (rises : (p q : ℕ) → p < q → 
     same = λ r small. refl;
     value = value;
   }
+
+  -- the same value in another register, by the instructions that follow
+  pub hands_on : (r to p q end : ℕ) (regs : List ℤ) (w : PoolMap) (t : ℕ) (o : Out ℤ) → p ≤ q
+      → q ≤ end → Gives (word_at r) p q regs w t o
+      → ((v : ℤ) (w1 : PoolMap) (t1 : ℕ) (regs1 : List ℤ) → word_at r regs1 v
+      → Gives (word_at to) q end regs1 w1 t1 (Got v w1 t1)) → Gives (word_at to) p end regs w t o
+  hands_on r to p q end regs w t (Got v w1 t1) le le1 g cont =
+      after (word_at to) p q end regs g.regs' w w1 t t1 le g.path g.same (Got v w1 t1)
+      (cont v w1 t1 g.regs' g.value)
+  hands_on r to p q end regs w t (Stops trap) le le1 g cont = path_more le1 g
+
+  pub copy_gives : (p q r : ℕ) (v : ℤ) (regs : List ℤ) (w : PoolMap) (t : ℕ) → p < q
+      → At ir f p (Copy (k.node q) r) → register_at regs r ≡ v
+      → Gives (word_at (k.node q)) p (suc p) regs w t (Got v w t)
+  copy_gives p q r v regs w t lt st e = puts p q v regs w t lt
+      (ap (λ i. act ir i f p regs below w t) st
+      ∙ ap (λ u. Goes (Here f (suc p) (put_register regs (k.node q) u) below w t)) e)
+
+  -- a copy, and a jump to the place of the register
+  pub copy_jumps : (p q r : ℕ) (v : ℤ) (regs : List ℤ) (w : PoolMap) (t : ℕ) → suc p < q
+      → At ir f p (Copy (k.node q) r) → At ir f (suc p) (Jump q) → register_at regs r ≡ v
+      → Gives (word_at (k.node q)) p q regs w t (Got v w t)
+  copy_jumps p q r v regs w t lt st st1 e =
+      let g = copy_gives p q r v regs w t (omega arith) st e in
+      after (word_at (k.node q)) p (suc p) q regs g.regs' w w t t (omega arith) g.path g.same
+      (Got v w t)
+      (moves (word_at (k.node q)) (suc p) q q g.regs' w t (Got v w t) lt
+      (ap (λ i. act ir i f (suc p) g.regs' below w t) st1)
+      (stays (word_at (k.node q)) q g.regs' w t v g.value))
 
   -- the two instructions that give 1 and jump over the one that gives 0
   pub one_gives : (p : ℕ) (regs : List ℤ) (w : PoolMap) (t : ℕ)

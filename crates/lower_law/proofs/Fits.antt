@@ -9,7 +9,6 @@ use Rattle.c_tree.specs.ItemTree.{FunctionTree}
 use Rattle.c_types.specs.Tables.{Tables, function_named}
 use Rattle.pool_map.specs.PoolMap.{PoolMap}
 use Rattle.pool_map.specs.declared.shapes.Shapes.{Shapes}
-use Rattle.pool_map.specs.declared.word.PoolWord.TheVariants.{Root}
 use Rattle.c_meaning.specs.Locals.{Local, scopes_of}
 use Rattle.c_meaning.specs.Access.{word_named, new_object}
 use Rattle.ir.specs.declared.instruction.Target.{Target}
@@ -49,6 +48,7 @@ module _ (k : Context) (ir : Ir) (v : Variables) (es : List Entry) where
     ExpFits (expr.Index a place i) = PointerFits a × ExpFits i
     ExpFits (expr.Unary o place a) = ExpFits a
     ExpFits (expr.Binary o place a b) = ExpFits a × ExpFits b
+    ExpFits (expr.Conditional c place a b) = ExpFits c × ExpFits a × ExpFits b
 
     -- the field of an element
     pub PointerFits : ExprTree → Type 0
@@ -62,6 +62,7 @@ module _ (k : Context) (ir : Ir) (v : Variables) (es : List Entry) where
     PointerFits (expr.Index a place i) = ⊥
     PointerFits (expr.Unary o place a) = ⊥
     PointerFits (expr.Binary o place a b) = ⊥
+    PointerFits (expr.Conditional c place a b) = ⊥
 
     pub ArgumentsFit : Arguments → Type 0
     ArgumentsFit expr.None = Unit {0}

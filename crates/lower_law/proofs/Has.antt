@@ -105,6 +105,20 @@ module _ (ir : Ir) (f : ℕ) where
           form_has (form_of o) (exp_code k v b) (exp_end b) (reg_of k v b) (reg_of k v a q) q rest
           (λ x r g. exp_has v b x r g)
           (exp_has v a p (is ++ rest) (simp append_assoc at h))
+      exp_has v (expr.Conditional c place a b) p rest h =
+          let p1 : ℕ = exp_end c p in
+          let p2 : ℕ = exp_end a (suc p1) in
+          let q : ℕ = suc (suc p2) in
+          let p3 : ℕ = exp_end b q in
+          let to : ℕ = k.node (suc p3) in
+          let last : List Instruction = Copy to (reg_of k v b p3) ∷ rest in
+          let left : List Instruction = Copy to (reg_of k v a p2) ∷ Jump (suc p3)
+          ∷ (exp_code k v b q ++ last) in
+          let hc = exp_has v c p
+          (Branch (reg_of k v c p1) q ∷ (exp_code k v a (suc p1) ++ left))
+          (simp append_assoc at h) in
+          let ha = exp_has v a (suc p1) left hc.1 in
+          (exp_has v b q last ha.1.1).1
 
       pub target_has : (v : Variables) (e : ExprTree) (p : ℕ) (rest : List Instruction)
           → HasAt p (target_code k v e p ++ rest) → HasAt (target_end e p) rest
@@ -121,6 +135,7 @@ module _ (ir : Ir) (f : ℕ) where
       target_has v (expr.New place name) p rest h = h
       target_has v (expr.Unary o place a) p rest h = h
       target_has v (expr.Binary o place a b) p rest h = h
+      target_has v (expr.Conditional c place a b) p rest h = h
 
       pub arguments_has : (v : Variables) (es : Arguments) (p : ℕ) (rest : List Instruction)
           → HasAt p (arguments_code k v es p ++ rest) → HasAt (arguments_end es p) rest

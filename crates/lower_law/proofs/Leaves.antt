@@ -140,6 +140,21 @@ module _ (n : ℕ) (k : Context) (from : (q : ℕ) → n ≤ k.node q) where
         both_leave n (exp_code k v a p) _ (exp_leaves v a p)
         (form_leaves (form_of o) (exp_code k v b) (exp_end b) (reg_of k v b) (reg_of k v a q) q
         (λ z. exp_leaves v b z))
+    exp_leaves v (expr.Conditional c place a b) p =
+        let p1 : ℕ = exp_end c p in
+        let p2 : ℕ = exp_end a (suc p1) in
+        let p3 : ℕ = exp_end b (suc (suc p2)) in
+        both_leave n (exp_code k v c p) _ (exp_leaves v c p) (
+          tt,
+          both_leave n (exp_code k v a (suc p1)) _ (exp_leaves v a (suc p1)) (
+            from (suc p3),
+            (
+              tt,
+              both_leave n (exp_code k v b (suc (suc p2))) _ (exp_leaves v b (suc (suc p2)))
+                  (from (suc p3), tt),
+            ),
+          ),
+        )
 
     pub target_leaves : (v : Variables) (e : ExprTree) (p : ℕ) → AllLeave n (target_code k v e p)
     target_leaves v (expr.Arrow base place name) p = exp_leaves v base p
@@ -154,6 +169,7 @@ module _ (n : ℕ) (k : Context) (from : (q : ℕ) → n ≤ k.node q) where
     target_leaves v (expr.New place name) p = tt
     target_leaves v (expr.Unary o place a) p = tt
     target_leaves v (expr.Binary o place a b) p = tt
+    target_leaves v (expr.Conditional c place a b) p = tt
 
     pub arguments_leave : (v : Variables) (all : Arguments) (p : ℕ)
         → AllLeave n (arguments_code k v all p)

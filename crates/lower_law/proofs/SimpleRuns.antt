@@ -185,6 +185,7 @@ module _ (ir : Ir) (m f : ℕ) (k : Context) (rises : (p q : ℕ) → p < q → 
     operands_run (expr.New place name) p rest ls regs w t s fits h held = absurd fits
     operands_run (expr.Unary o place a) p rest ls regs w t s fits h held = absurd fits
     operands_run (expr.Binary o place a b) p rest ls regs w t s fits h held = absurd fits
+    operands_run (expr.Conditional c place a b) p rest ls regs w t s fits h held = absurd fits
 
     pub operands_kept : (e : ExprTree) (p : ℕ) (regs regs1 : List ℤ) (o : ℤ × Option ℤ) → Scoped p
         → PlaceFits k ir v es e → Same (k.node (target_end e p)) regs regs1
@@ -218,6 +219,7 @@ module _ (ir : Ir) (m f : ℕ) (k : Context) (rises : (p q : ℕ) → p < q → 
     operands_kept (expr.New place name) p regs regs1 o s fits same h = absurd fits
     operands_kept (expr.Unary u place a) p regs regs1 o s fits same h = absurd fits
     operands_kept (expr.Binary u place a b) p regs regs1 o s fits same h = absurd fits
+    operands_kept (expr.Conditional c place a b) p regs regs1 o s fits same h = absurd fits
 
     pub operands_word : (e : ExprTree) (p : ℕ) → Scoped p → PlaceFits k ir v es e
         → WordFits k.tables ir.shapes es (target_field e) (target_of k v e p)
@@ -234,6 +236,7 @@ module _ (ir : Ir) (m f : ℕ) (k : Context) (rises : (p q : ℕ) → p < q → 
     operands_word (expr.New place name) p s fits = absurd fits
     operands_word (expr.Unary u place a) p s fits = absurd fits
     operands_word (expr.Binary u place a b) p s fits = absurd fits
+    operands_word (expr.Conditional c place a b) p s fits = absurd fits
 
     -- the checks and the store, after the operands
     pub store_at : (out again q : ℕ) (L : List Local → List ℤ → Type 0) (target e : ExprTree)

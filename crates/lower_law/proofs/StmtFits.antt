@@ -34,6 +34,7 @@ module _ (k : Context) (ir : Ir) where
   PlaceFits v es (expr.New place name) = ⊥
   PlaceFits v es (expr.Unary o place a) = ⊥
   PlaceFits v es (expr.Binary o place a b) = ⊥
+  PlaceFits v es (expr.Conditional c place a b) = ⊥
 
   abbrev pub TargetFits : Variables → List Entry → Option Ident → ExprTree → Type 0
   TargetFits v es (Some name) target = (r : ℕ) × (entry_register name.text es ≡ Some r)

@@ -49,6 +49,7 @@ local_is (expr.Arrow base place name) = refl
 local_is (expr.Index a place i) = refl
 local_is (expr.Unary o place a) = refl
 local_is (expr.Binary o place a b) = refl
+local_is (expr.Conditional c place a b) = refl
 
 -- an optional value; if absent, it is a constant
 abbrev pub or_value : Context → Calls → ℤ → Option ExprTree → List Local → PoolMap → ℕ → Out ℤ

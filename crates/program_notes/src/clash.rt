@@ -10,7 +10,7 @@ use std::alloc::{AllocError, Global};
 /// What stands at a token that breaks a rule.
 #[derive(Clone, Copy)]
 pub(crate) enum Clash {
-    /// A binary operator, with the types of both sides.
+    /// A binary operator or `?`, with the types of both sides.
     Sides(ValueType, ValueType),
     /// A unary operator, with the type of its operand.
     Operand(ValueType),
@@ -368,6 +368,15 @@ fn expr(look: &Look<'_, '_>, scopes: &Scopes<'_>, one: &Expr) -> Option<Clash> {
             right,
             ..
         } => sides(look, scopes, left, *place, right)
+            .or(expr(look, scopes, left))
+            .or(expr(look, scopes, right)),
+        Expr::Conditional {
+            condition,
+            place,
+            left,
+            right,
+        } => sides(look, scopes, left, *place, right)
+            .or(expr(look, scopes, condition))
             .or(expr(look, scopes, left))
             .or(expr(look, scopes, right)),
     }

@@ -99,6 +99,9 @@ fn missing(
             "the body of a `do` ends here: `while (x);` follows it",
         );
     }
+    if able.contains(&":") && is_one(near.here(), &[";", ")", ",", "]", "}"]) {
+        return some_text(alloc, "a `:` is missing here, and the value behind it");
+    }
     let in_expression = able.contains(&"pm_new") && !able.contains(&"for");
     match left_out(alloc, near, in_expression)? {
         Some(note) => Ok(Some(note)),

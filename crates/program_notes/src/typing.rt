@@ -346,6 +346,12 @@ fn sides(
 ) -> Result<Told, AllocError> {
     let head = format!(in alloc; "`{name}` joins ")?;
     let told = two(alloc, program, (head.as_str(), left), (" and ", right))?;
+    if name == "?" {
+        return told.with(
+            alloc,
+            "its sides are two numbers, or two pointers to one struct, or a pointer and `NULL`",
+        );
+    }
     if name != "==" && name != "!=" {
         return told.with(
             alloc,

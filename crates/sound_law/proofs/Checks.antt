@@ -106,6 +106,7 @@ module _ (t : Tables) (ls : List Local) (p : PoolMap) where
   word_fails (expr.Index a place i) pointer index = tt
   word_fails (expr.Unary op place a) pointer index = tt
   word_fails (expr.Binary op place a b) pointer index = tt
+  word_fails (expr.Conditional c place a b) pointer index = tt
 
   pub located_fails : (e : ExprTree) (pointer : ℤ) (index : Option ℤ)
       → FailsAt (located t ls p e pointer index)

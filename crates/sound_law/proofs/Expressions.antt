@@ -149,6 +149,7 @@ module _ (t : Tables) where
       element_finds (expr.Index base place index) x p b j h fits = absurd h
       element_finds (expr.Unary op place a) x p b j h fits = absurd h
       element_finds (expr.Binary op place a c) x p b j h fits = absurd h
+      element_finds (expr.Conditional c place a d) x p b j h fits = absurd h
 
       pub root_value_finds : (name : Ident) (x : StaticType) (p : PoolMap) (b : ℤ)
           → HasType t (scopes_of ls) (expr.Root name) x → Fits p
@@ -258,6 +259,23 @@ module _ (t : Tables) where
                   (λ p k. value_of t calls b ls p k) r.1
                   (λ p k fits. (exp_sound b h.2 p k h.4 fits).1),
             )
+        exp_sound (expr.Conditional c place a b) x p k h fits =
+            let r = exp_sound c h.0 p k h.1 fits in (
+              (
+                r.0,
+                after_more (value_of t calls c ls p k) (λ v p k. Fits p)
+                    (λ v p k. (is_zero v ≡ false → Finds t calls found a ls p k)
+                    × (is_zero v ≡ true → Finds t calls found b ls p k)) r.1
+                    (λ v p k fits. (
+                      (λ e. (exp_sound a h.2 p k h.4 fits).0),
+                      (λ e. (exp_sound b h.3 p k h.5 fits).0),
+                    )),
+              ),
+              after_do (value_of t calls c ls p k) _ (λ v p k. Fits p) (λ v p k. Fits p) r.1
+                  (λ v p k fits. zero_leaves (is_zero v) (value_of t calls b ls p k)
+                  (value_of t calls a ls p k) (exp_sound b h.3 p k h.5 fits).1
+                  (exp_sound a h.2 p k h.4 fits).1),
+            )
         exp_sound (expr.Call name all) x p k h fits =
             call_from name all h.0 p k h.4 (all_sound h.0.parameters all p k h.6 fits)
 
@@ -275,6 +293,7 @@ module _ (t : Tables) where
         pointer_sound (expr.Index base place index) x p k h fits = absurd h
         pointer_sound (expr.Unary op place a) x p k h fits = absurd h
         pointer_sound (expr.Binary op place a b) x p k h fits = absurd h
+        pointer_sound (expr.Conditional c place a b) x p k h fits = absurd h
 
         all_sound : (ps : List ParameterTree) (all : Arguments) (p : PoolMap) (k : ℕ)
             → ArePassed t (scopes_of ls) ps all → Fits p

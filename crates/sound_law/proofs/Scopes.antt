@@ -1,6 +1,6 @@
 -- The locals of the meaning and the scopes of the rules.
 use Rattle.std.proofs.Common.{◌≡◌, ℕ, suc, Bool, true, false, List, [], ◌∷◌}
-use Rattle.std.proofs.Common.{refl, sym, ◌∙◌, subst, ◌⊎◌, inl, inr}
+use Rattle.std.proofs.Common.{refl, sym, ◌∙◌, subst, ◌⊎◌, inl, inr, ⊎_elim}
 use Rattle.std.specs.Prelude.{Option, None, Some, if◌then◌else◌, option_map}
 use Rattle.std.specs.Prelude.{option_and_then, slice_get, bytes_eq}
 use Rattle.std.proofs.lemmas.Option.{none-some, same_Some}
@@ -12,6 +12,7 @@ use Rattle.c_types.specs.Tables.{Tables}
 use Rattle.c_types.specs.Expressions.{Scope, or_else, variable_type}
 use Rattle.c_meaning.specs.Locals.{Local, scopes_of}
 use Rattle.rules_law.specs.typed.Types.{StaticType, Number, PointerTo, NullPointer, value_type}
+use Rattle.rules_law.specs.typed.Types.{AcceptsType}
 use Rattle.rules_law.specs.typed.Expressions.{HasType, IsArray, ArePassed}
 use Rattle.sound_law.specs.Places.{IsLocal}
 use Rattle.sound_law.proofs.Fields.{IsSmall, pointer_small, written_small}
@@ -111,8 +112,12 @@ type_small t ls (expr.Index base place index) x all h = array_small base h.0
     array_small (expr.Index base place index) h = absurd h
     array_small (expr.Unary op place a) h = absurd h
     array_small (expr.Binary op place a b) h = absurd h
+    array_small (expr.Conditional c place a b) h = absurd h
 type_small t ls (expr.Unary op place a) x all h = rw h.0 tt
 type_small t ls (expr.Binary op place a b) x all h = rw h.0 tt
+type_small t ls (expr.Conditional c place a b) x all h =
+    ⊎_elim (λ (g : (x ≡ h.2) × AcceptsType h.2 h.3). rw g.0 (type_small t ls a h.2 all h.4))
+    (λ (g : (x ≡ h.3) × AcceptsType h.3 h.2). rw g.0 (type_small t ls b h.3 all h.5)) h.6
 type_small t ls (expr.Call name args) x all h = written_small t h.1 x h.3
 
 -- each name means the same in both scopes, so each expression has the same types
@@ -135,6 +140,15 @@ mutual
       (h.0, h.1, type_moved t s u a h.1 same h.2, h.3)
   type_moved t s u (expr.Binary op place a b) x same h =
       (h.0, h.1, h.2, type_moved t s u a h.1 same h.3, type_moved t s u b h.2 same h.4, h.5)
+  type_moved t s u (expr.Conditional c place a b) x same h = (
+    h.0,
+    type_moved t s u c h.0 same h.1,
+    h.2,
+    h.3,
+    type_moved t s u a h.2 same h.4,
+    type_moved t s u b h.3 same h.5,
+    h.6,
+  )
   type_moved t s u (expr.Call name all) x same h =
       (h.0, h.1, h.2, h.3, h.4, h.5, passed_moved t s u h.0.parameters all same h.6)
 
@@ -151,6 +165,7 @@ mutual
   array_moved t s u (expr.Index base place index) x same h = absurd h
   array_moved t s u (expr.Unary op place a) x same h = absurd h
   array_moved t s u (expr.Binary op place a b) x same h = absurd h
+  array_moved t s u (expr.Conditional c place a b) x same h = absurd h
 
   pub passed_moved : (t : Tables) (s u : List Scope) (ps : List ParameterTree) (all : Arguments)
       → IsSame s u → ArePassed t s ps all → ArePassed t u ps all

@@ -111,6 +111,7 @@ module _ (t : Tables) (sane : IsSane t) (typed : IsWellTyped t) (calls : Calls)
   operands_sound (expr.New place name) x p k good is h fits = absurd good
   operands_sound (expr.Unary op place a) x p k good is h fits = absurd good
   operands_sound (expr.Binary op place a b) x p k good is h fits = absurd good
+  operands_sound (expr.Conditional c place a b) x p k good is h fits = absurd good
 
   target_there : (target : ExprTree) (name : List ℕ) (x : StaticType)
       → target_local target ≡ Some name → HasType t (scopes_of ls) target x → IsLocal name ls
@@ -126,6 +127,7 @@ module _ (t : Tables) (sane : IsSane t) (typed : IsWellTyped t) (calls : Calls)
   target_there (expr.Index a place i) name x is h = absurd (none-some name is)
   target_there (expr.Unary op place a) name x is h = absurd (none-some name is)
   target_there (expr.Binary op place a b) name x is h = absurd (none-some name is)
+  target_there (expr.Conditional c place a b) name x is h = absurd (none-some name is)
 
   abbrev Ends : StmtEnd → Type 0
   Ends e = EndsWith t (scopes_of ls) e

@@ -210,6 +210,10 @@ module _ (t : Tables) (calls : Calls) (fall : CallsFall calls) where
     value_falls (expr.Binary op place a b) ls p k =
         binary_falls k op place (value_of t calls a ls p k) (λ p k. value_of t calls b ls p k)
         (value_falls a ls p k) (λ p j. value_falls b ls p j)
+    value_falls (expr.Conditional c place a b) ls p k =
+        do_falls k (value_of t calls c ls p k) _ (value_falls c ls p k)
+        (λ x p j. zero_falls j (is_zero x) (value_of t calls b ls p j) (value_of t calls a ls p j)
+        (value_falls b ls p j) (value_falls a ls p j))
 
     pointer_falls : (e : ExprTree) (ls : List Local) (p : PoolMap) (k : ℕ)
         → Falls k (pointer_of t calls e ls p k)
@@ -223,6 +227,7 @@ module _ (t : Tables) (calls : Calls) (fall : CallsFall calls) where
     pointer_falls (expr.Index a place i) ls p k = same k
     pointer_falls (expr.Unary op place a) ls p k = same k
     pointer_falls (expr.Binary op place a b) ls p k = same k
+    pointer_falls (expr.Conditional c place a b) ls p k = same k
 
     values_fall : (all : Arguments) (ls : List Local) (p : PoolMap) (k : ℕ)
         → Falls k (values_of t calls all ls p k)
@@ -247,6 +252,7 @@ module _ (t : Tables) (calls : Calls) (fall : CallsFall calls) where
   operands_fall (expr.New place name) ls p k = same k
   operands_fall (expr.Unary op place a) ls p k = same k
   operands_fall (expr.Binary op place a b) ls p k = same k
+  operands_fall (expr.Conditional c place a b) ls p k = same k
 
   stored_below : (r : Result PoolWord TrapAt) (v : ℤ) (ls : List Local) (p : PoolMap) (k : ℕ)
       → FailsAt r → EndsBelow k (stored_end r v ls p k)

@@ -17,7 +17,7 @@
 --
 -- One thing has no row: a body that ends by `break` or `continue` gives 0 (`given`). The grammar
 -- has these words in loops alone, but a tree that no tokens spell might have them elsewhere.
-use Rattle.std.specs.Prelude.{ℕ, zero, suc, ℤ, pos, ◌≡◌, List, None, Some, Bool, true, not}
+use Rattle.std.specs.Prelude.{ℕ, zero, suc, ℤ, pos, ◌≡◌, List, None, Some, Bool, true, false, not}
 use Rattle.c_tree.specs.ExprTree.{ExprTree, Arguments}
 use Rattle.c_tree.specs.ExprTree as expr
 use Rattle.c_tree.specs.ItemTree.{FunctionTree}
@@ -82,6 +82,9 @@ module _ (t : Tables) (calls : Calls) (found : FunctionTree → List ℤ → Poo
     Finds (expr.Unary op place a) ls p k = Finds a ls p k
     Finds (expr.Binary op place a b) ls p k = Finds a ls p k
         × Past (value_of t calls a ls p k) (λ x p k. goes_right op x ≡ true → Finds b ls p k)
+    Finds (expr.Conditional c place a b) ls p k = Finds c ls p k
+        × Past (value_of t calls c ls p k) (λ x p k. (is_zero x ≡ false → Finds a ls p k)
+        × (is_zero x ≡ true → Finds b ls p k))
 
     -- what stands before `[` is a field
     pub FindsPointer : ExprTree → List Local → PoolMap → ℕ → Type 0
@@ -95,6 +98,7 @@ module _ (t : Tables) (calls : Calls) (found : FunctionTree → List ℤ → Poo
     FindsPointer (expr.Index a place i) ls p k = ⊥
     FindsPointer (expr.Unary op place a) ls p k = ⊥
     FindsPointer (expr.Binary op place a b) ls p k = ⊥
+    FindsPointer (expr.Conditional c place a b) ls p k = ⊥
 
     -- arguments, from left to right
     pub FindsAll : Arguments → List Local → PoolMap → ℕ → Type 0
@@ -115,3 +119,4 @@ module _ (t : Tables) (calls : Calls) (found : FunctionTree → List ℤ → Poo
   FindsOperands (expr.New place name) ls p k = ⊥
   FindsOperands (expr.Unary op place a) ls p k = ⊥
   FindsOperands (expr.Binary op place a b) ls p k = ⊥
+  FindsOperands (expr.Conditional c place a b) ls p k = ⊥

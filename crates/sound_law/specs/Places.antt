@@ -76,3 +76,4 @@ FindsWord t ls p (expr.New place name) pointer index = ⊥
 FindsWord t ls p (expr.Index a place i) pointer index = ⊥
 FindsWord t ls p (expr.Unary op place a) pointer index = ⊥
 FindsWord t ls p (expr.Binary op place a b) pointer index = ⊥
+FindsWord t ls p (expr.Conditional c place a b) pointer index = ⊥

@@ -62,7 +62,7 @@ fn starts_of(alloc: Global, text: &[u8]) -> Result<String, AllocError> {
 }
 
 /// Texts, and their tokens in words.
-const TEXTS: [(&str, &str); 42] = [
+const TEXTS: [(&str, &str); 44] = [
     ("", "1: end"),
     ("a+++b", "1: a Increment Plus b end"),
     ("a-->b", "1: a Decrement Greater b end"),
@@ -80,6 +80,11 @@ const TEXTS: [(&str, &str); 42] = [
     ("a<=>=b", "1: a LessEqual GreaterEqual b end"),
     ("===!==", "1: Equal Assign NotEqual Assign end"),
     ("&&&|||^~!", "1: AndAnd And OrOr Or Xor Tilde Not end"),
+    ("a?b:c", "1: a Question b Colon c end"),
+    (
+        "?:::=??/* : */",
+        "1: Question Colon Colon Colon Assign Question Question end",
+    ),
     (
         "+=-=+-*/%.,;(){}[]",
         "1: AddAssign SubAssign Plus Minus Star Slash Percent Dot Comma Semicolon OpenRound \
@@ -180,10 +185,10 @@ fn starts_are_exact(rt: HostRuntime) -> Result<(), Fail> {
     Ok(())
 }
 
-const MARKS: [&str; 43] = [
+const MARKS: [&str; 45] = [
     "<<=", ">>=", "->", "++", "--", "+=", "-=", "*=", "/=", "%=", "&=", "^=", "|=", "<<", ">>",
     "<=", ">=", "==", "!=", "&&", "||", "+", "-", "*", "/", "%", "<", ">", "&", "^", "|", "!", "~",
-    "=", ".", ",", ";", "(", ")", "{", "}", "[", "]",
+    "=", "?", ":", ".", ",", ";", "(", ")", "{", "}", "[", "]",
 ];
 
 /// Each mark beside each other, a pair a line, but for `/` beside `*` and `*=`, which opens a
@@ -210,7 +215,7 @@ fn many_tokens_are_read(rt: HostRuntime) -> Result<(), Fail> {
         many.push_str(";")?;
     }
     let marks = pairs(rt.alloc())?;
-    for (text, count, end) in [(many.as_str(), 16_384, 1), (marks.as_str(), 3667, 1848)] {
+    for (text, count, end) in [(many.as_str(), 16_384, 1), (marks.as_str(), 4019, 2024)] {
         let list = tokens(rt.alloc(), text.as_bytes())?;
         assert_eq!(rt; list.len(), count);
         assert_eq!(rt; list.line(list.len()), end, "after {count} tokens");

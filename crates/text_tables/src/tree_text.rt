@@ -89,6 +89,20 @@ fn show(alloc: Global, out: &mut String, expr: &Expr, depth: u64) -> Result<(), 
             show(alloc, out, right, depth - 1)?;
             out.push_str(")")?;
         }
+        Expr::Conditional {
+            condition,
+            left,
+            right,
+            ..
+        } => {
+            out.push_str("(")?;
+            show(alloc, out, condition, depth - 1)?;
+            out.push_str("?")?;
+            show(alloc, out, left, depth - 1)?;
+            out.push_str(":")?;
+            show(alloc, out, right, depth - 1)?;
+            out.push_str(")")?;
+        }
     }
     Ok(())
 }

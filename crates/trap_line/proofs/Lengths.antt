@@ -1,5 +1,5 @@
 -- A function has the tokens of one instruction for each instruction of its code.
-use Rattle.std.proofs.Common.{◌≡◌, ℕ, suc, ◌+◌, List, [], ◌∷◌, ◌++◌, length, refl, ap, arith}
+use Rattle.std.proofs.Common.{◌≡◌, ℕ, suc, List, [], ◌∷◌, ◌++◌, length, refl, ap, arith}
 use Rattle.std.proofs.Common.{length-append, Bool, true, false}
 use Rattle.std.specs.Prelude.{Option, None, Some, if◌then◌else◌, pos}
 use Rattle.nvm_base.specs.declared.op.BinOp.{BinOp}
@@ -80,6 +80,13 @@ mutual
       both_long (exp_spots a) _ (exp_code s v a p) _ (exp_long s v a p)
       (form_long (form_of o) place (exp_spots b) s.node (exp_code s v b) (exp_end b) (reg_of s v b)
       (reg_of s v a (exp_end a p)) (exp_end a p) (λ x. exp_long s v b x))
+  exp_long s v (expr.Conditional c place a b) p =
+      let p1 : ℕ = exp_end c p in
+      let p2 : ℕ = exp_end a (suc p1) in
+      both_long (exp_spots c) _ (exp_code s v c p) _ (exp_long s v c p)
+      (ap suc (both_long (exp_spots a) _ (exp_code s v a (suc p1)) _ (exp_long s v a (suc p1))
+      (ap (λ (x : ℕ). suc (suc x)) (both_long (exp_spots b) _ (exp_code s v b (suc (suc p2))) _
+      (exp_long s v b (suc (suc p2))) refl))))
 
   target_long : (s : Context) (v : Variables) (e : ExprTree) (p : ℕ)
       → length (target_spots e) ≡ length (target_code s v e p)
@@ -96,6 +103,7 @@ mutual
   target_long s v (expr.New place name) p = refl
   target_long s v (expr.Unary o place a) p = refl
   target_long s v (expr.Binary o place a b) p = refl
+  target_long s v (expr.Conditional c place a b) p = refl
 
   arguments_long : (s : Context) (v : Variables) (all : Arguments) (p : ℕ)
       → length (arguments_spots all) ≡ length (arguments_code s v all p)

@@ -60,6 +60,10 @@ form_spots Either place right = never ∷ never ∷ (right ++ truth_spots)
 form_spots (Direct o) place right = right ++ spot place ∷ []
 form_spots (Exchanged o) place right = right ++ spot place ∷ []
 
+-- the right side of `?` with a copy behind each side, and a jump over it behind the first copy
+abbrev pub other_spots : (right : List Spot) → List Spot
+other_spots right = never ∷ never ∷ (right ++ never ∷ [])
+
 abbrev mutual
   pub exp_spots : ExprTree → List Spot
   exp_spots (expr.Number n) = never ∷ []
@@ -78,6 +82,8 @@ abbrev mutual
   exp_spots (expr.Unary unary.Not place a) = exp_spots a ++ never ∷ never ∷ []
   exp_spots (expr.Binary o place a b) =
       exp_spots a ++ form_spots (form_of o) place (exp_spots b)
+  exp_spots (expr.Conditional c place a b) =
+      exp_spots c ++ never ∷ (exp_spots a ++ other_spots (exp_spots b))
 
   -- the base and the index of a field or an element
   pub target_spots : ExprTree → List Spot
@@ -91,6 +97,7 @@ abbrev mutual
   target_spots (expr.New place name) = []
   target_spots (expr.Unary o place a) = []
   target_spots (expr.Binary o place a b) = []
+  target_spots (expr.Conditional c place a b) = []
 
   pub arguments_spots : Arguments → List Spot
   arguments_spots expr.None = []

@@ -6,7 +6,7 @@ ghost use Rattle.c_tree.specs.ExprTree as tree;
 ghost use Rattle.lower.specs.Forms as forms;
 ghost use Rattle.trap_line.specs.Spots as definitions;
 ghost use Rattle.trap_line.specs.Spots.{exp_spots, target_spots, arguments_spots, form_spots};
-ghost use Rattle.trap_line.specs.Spots.{or_spots, truth_spots, never};
+ghost use Rattle.trap_line.specs.Spots.{or_spots, truth_spots, other_spots, never};
 
 use crate::spot::{Spot, Spots};
 use c_tree::expr::{Argument, BinaryOp, Expr, Name, UnaryOp};
@@ -35,6 +35,7 @@ fn field_token(field: &Expr) -> u64
         Expr::Index { .. } => 0,
         Expr::Unary { .. } => 0,
         Expr::Binary { .. } => 0,
+        Expr::Conditional { .. } => 0,
     }
 }
 
@@ -53,6 +54,7 @@ pub(crate) fn access(target: &Expr, log: u64) -> Spot
         Expr::New { .. } => (0, 0),
         Expr::Unary { .. } => (0, 0),
         Expr::Binary { .. } => (0, 0),
+        Expr::Conditional { .. } => (0, 0),
     };
     Spot { place, index, log }
 }
@@ -96,6 +98,17 @@ pub(crate) fn push_expression(spots: &mut Spots, expr: &Expr) -> Result<(), Allo
         } => {
             push_expression(spots, left)?;
             push_right(spots, *op, *place, right)
+        }
+        Expr::Conditional {
+            condition,
+            left,
+            right,
+            ..
+        } => {
+            push_expression(spots, condition)?;
+            push_never(spots)?;
+            push_expression(spots, left)?;
+            push_other_side(spots, right)
         }
     }
 }
@@ -170,6 +183,19 @@ fn push_right(spots: &mut Spots, op: BinaryOp, place: u64, right: &Expr) -> Resu
     }
 }
 
+/// Appends those of the right side of `?`, with a copy behind each side.
+#[cycle(expressions)]
+#[tactic(auto, using(crate::proofs::Trees::trees))]
+fn push_other_side(spots: &mut Spots, right: &Expr) -> Result<(), AllocError>
+    ensures { OnOk result (spots.new
+        ≡ spots.old ++ other_spots (exp_spots (expr_of right.now))) }
+{
+    push_never(spots)?;
+    push_never(spots)?;
+    push_expression(spots, right)?;
+    push_never(spots)
+}
+
 fn push_truth(spots: &mut Spots) -> Result<(), AllocError>
     ensures { OnOk result (spots.new ≡ spots.old ++ truth_spots) }
 {
@@ -199,6 +225,7 @@ pub(crate) fn push_target(spots: &mut Spots, target: &Expr) -> Result<(), AllocE
         Expr::New { .. } => Ok(()),
         Expr::Unary { .. } => Ok(()),
         Expr::Binary { .. } => Ok(()),
+        Expr::Conditional { .. } => Ok(()),
     }
 }
 

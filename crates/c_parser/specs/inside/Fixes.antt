@@ -23,9 +23,10 @@ pub record IsFollowed {A : Type 0} (ts : List Placed) (Following : Kind → Type
   pub spelled : P k t
   pub following : Following (kind_at ts k)
 
--- a token that doesn't continue an operand of levels 1 to l
+-- a token that doesn't continue an operand of levels 1 to l; a `?` is of level 11
 abbrev pub Over : ℕ → Kind → Type 0
 Over l (kind.Operator o) = l < level_of o
+Over l kind.Question = l < 11
 Over l kind.Arrow = ⊥
 Over l kind.OpenSquare = ⊥
 Over l kind.OpenRound = ⊥

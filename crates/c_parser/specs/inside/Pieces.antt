@@ -13,9 +13,16 @@ use Rattle.c_tree.specs.StmtTree.{Statements, tree_of_first, simple_of}
 use Rattle.c_tree.specs.StmtTree as tree
 use Rattle.c_tree.specs.ItemTree.{FieldTree, ParameterTree, ItemTree}
 use Rattle.c_tree.specs.ItemTree as item
+use Rattle.c_tree.specs.Spelling.{Expression}
 use Rattle.c_tree.specs.StmtSpelling.{Typed, Declares, Bracketed, Acts, Simply, FirstPart}
 use Rattle.c_tree.specs.StmtSpelling.{ValuePart, ThirdPart, Spells, SpellsAll}
 use Rattle.c_tree.specs.ItemSpelling.{SpellsFields, SpellsParameters}
+
+-- both sides of a condition, from its `?` on
+pub data FromCondition (ts : List Placed) (i : ℕ) (c : ExprTree) : ℕ → ExprTree → Type 0 where
+  sides : {n j : ℕ} {a b : ExprTree}
+      → kind_at ts i ≡ kind.Question → Expression ts (i + 1) n a → kind_at ts n ≡ kind.Colon
+      → Expression ts (n + 1) j b → FromCondition ts i c j (expr.Conditional c i a b)
 
 -- an action on a target, or a call that stands alone
 pub data ActsOrCalls (ts : List Placed) : ℕ → ℕ → ExprTree → SimpleTree → Type 0 where

@@ -4,7 +4,8 @@
 use Rattle.std.specs.Prelude.{ℕ, ◌+◌, List, [], ◌∷◌, Option, Some, None}
 use Rattle.c_lexer.specs.declared.token.Placed.{Placed}
 use Rattle.c_parser.specs.declared.want.Want.{Want}
-use Rattle.c_parser.specs.declared.want.Want.TheVariants.{Operand, Rest, Named, Dot, FirstArgument}
+use Rattle.c_parser.specs.declared.want.Want.TheVariants.{Operand, Rest, Named, Dot, Colon}
+use Rattle.c_parser.specs.declared.want.Want.TheVariants.{FirstArgument}
 use Rattle.c_parser.specs.declared.want.Want.TheVariants.{MoreArguments, Round, Square, Target}
 use Rattle.c_parser.specs.declared.want.Want.TheVariants.{Bare, Block, Fields, Parameters}
 use Rattle.c_parser.specs.declared.want.Want.TheVariants.{MoreParameters, Items}
@@ -34,6 +35,7 @@ operators (Operand n) = n
 operators (Rest n) = n
 operators (Named n) = n
 operators (Dot n) = n
+operators (Colon n) = n
 operators (Target n) = n
 operators _ = 0
 

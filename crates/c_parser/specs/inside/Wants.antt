@@ -9,7 +9,8 @@ use Rattle.c_tree.specs.declared.stmt.AssignOp.TheVariants as assign
 use Rattle.c_tree.specs.declared.kind.Kind.{Kind}
 use Rattle.c_tree.specs.declared.kind.Kind.TheVariants as kind
 use Rattle.c_parser.specs.declared.want.Want.{Want}
-use Rattle.c_parser.specs.declared.want.Want.TheVariants.{Operand, Rest, Named, Dot, FirstArgument}
+use Rattle.c_parser.specs.declared.want.Want.TheVariants.{Operand, Rest, Named, Dot, Colon}
+use Rattle.c_parser.specs.declared.want.Want.TheVariants.{FirstArgument}
 use Rattle.c_parser.specs.declared.want.Want.TheVariants.{MoreArguments, NewOpen, Ident, Digits}
 use Rattle.c_parser.specs.declared.want.Want.TheVariants.{Semicolon, StructWord, Star, RootWord}
 use Rattle.c_parser.specs.declared.want.Want.TheVariants.{WhileWord, Round, Square, Target}
@@ -56,6 +57,7 @@ abbrev pub rest : ℕ → Kind → WantMove
 rest n (kind.Operator o) = Take (Operand (n + 1) ∷ [])
 rest n kind.Arrow = Take (Ident ∷ Rest (n + 1) ∷ [])
 rest n kind.OpenSquare = Take (Operand 0 ∷ Square ∷ Rest (n + 1) ∷ [])
+rest n kind.Question = Take (Operand 0 ∷ Colon (n + 1) ∷ [])
 rest n _ = Yield
 
 abbrev pub named : ℕ → Kind → WantMove
@@ -65,6 +67,10 @@ named n k = rest n k
 abbrev pub dot : ℕ → Kind → WantMove
 dot n kind.Dot = Take (Ident ∷ Rest (n + 1) ∷ [])
 dot n _ = Refuse
+
+abbrev pub colon : ℕ → Kind → WantMove
+colon n kind.Colon = Take (Operand n ∷ [])
+colon n _ = Refuse
 
 abbrev pub first_argument : Kind → WantMove
 first_argument kind.CloseRound = Take []
@@ -261,6 +267,7 @@ move (Operand n) k = operand n k
 move (Rest n) k = rest n k
 move (Named n) k = named n k
 move (Dot n) k = dot n k
+move (Colon n) k = colon n k
 move FirstArgument k = first_argument k
 move MoreArguments k = more_arguments k
 move NewOpen k = new_open k

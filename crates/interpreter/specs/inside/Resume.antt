@@ -87,6 +87,7 @@ element_operand (expr.New place name) x y = y
 element_operand (expr.Arrow base place name) x y = y
 element_operand (expr.Unary op place a) x y = y
 element_operand (expr.Binary op place a b) x y = y
+element_operand (expr.Conditional c place a b) x y = y
 
 abbrev pub pointer_in : ExprTree → List ℤ → ℤ
 pointer_in e vs = element_operand e (newest (drop 1 vs)) (newest vs)
@@ -284,6 +285,10 @@ abbrev pub todo_act : Tables → Todo → Goes → List ℤ → List (List Local
 todo_act t (todo.Expr task e) go vs below end =
     if_next go vs below end (λ ls p k. expr_act t task e go vs below ls p k)
 todo_act t (todo.Stmt task s) go vs below end = stmt_act t task s go vs below end
+todo_act t (todo.Sides a b) go vs below end =
+    if_next go vs below end (λ ls p k. pushed go (drop 1 vs) below ls
+    (at_zero (newest vs) (value_of t (calls t below) b ls p k)
+    (value_of t (calls t below) a ls p k)))
 todo_act t (todo.Arguments all) go vs below end =
     if_next go vs below end (λ ls p k.
     pushed_all go vs below ls (values_of t (calls t below) all ls p k))

@@ -14,6 +14,7 @@ use Rattle.interpreter.specs.declared.work.Work.TheVariants as work
 pub data Todo : Type 0 where
   Expr : ExprTask → ExprTree → Todo
   Stmt : StmtTask → StmtTree → Todo
+  Sides : (left right : ExprTree) → Todo
   Arguments : expr.Arguments → Todo
   Rest : Statements → Todo
   Simple : SimpleTree → Todo
@@ -28,6 +29,7 @@ pub data Todo : Type 0 where
 abbrev pub todo_of : Work → Todo
 todo_of (work.Expr task e) = Expr task (expr_of e.now)
 todo_of (work.Stmt task s) = Stmt task (stmt_of s.now)
+todo_of (work.Sides a b) = Sides (expr_of a.now) (expr_of b.now)
 todo_of (work.Arguments all) = Arguments (arguments_in all.now)
 todo_of (work.Rest all) = Rest (statements_in all.now)
 todo_of (work.Simple s) = Simple (simple_of s.now)

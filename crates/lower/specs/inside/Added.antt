@@ -21,7 +21,8 @@ use Rattle.lower.specs.Lowers.{or_end, or_code, or_reg, initial_end, initial_cod
 use Rattle.lower.specs.Lowers.{simple_code, first_end, first_code, third_end, third_code, stmt_end}
 use Rattle.lower.specs.Lowers.{stmt_code, statements_end, statements_code, variables_after}
 use Rattle.lower.specs.Lowers.{variables_after_first, update_end, update_code}
-use Rattle.lower.specs.inside.Lowers.{variables_after_all, for_end, for_code}
+use Rattle.lower.specs.inside.Lowers.{variables_after_all, left_code, other_end, other_code}
+use Rattle.lower.specs.inside.Lowers.{for_end, for_code}
 
 -- registers after the parameters' are named by places
 abbrev pub context_of : Source → Context
@@ -65,6 +66,20 @@ pub record RightAdded (k : Context) (v : Variables) (f : Form) (on : ℕ) (e : E
   pub code : new ≡ old ++ form_code f k.node (exp_code k v e) (exp_end e) (reg_of k v e) on
       (length old)
   pub long : length new ≡ form_end f (exp_end e) (length old)
+  pub register : r ≡ k.node (length new)
+
+-- the left side of `?`, whose condition is in the register `on`
+pub record LeftAdded (k : Context) (v : Variables) (on : ℕ) (a : ExprTree)
+    (old new : List Instruction) (r : ℕ) : Type 0 where
+  pub code : new ≡ old ++ left_code k v on a (length old)
+  pub long : length new ≡ exp_end a (suc (length old))
+  pub register : r ≡ reg_of k v a (length new)
+
+-- the right side of `?`, whose left side is in the register `left`
+pub record OtherAdded (k : Context) (v : Variables) (left : ℕ) (b : ExprTree)
+    (old new : List Instruction) (r : ℕ) : Type 0 where
+  pub code : new ≡ old ++ other_code k v left b (length old)
+  pub long : length new ≡ other_end b (length old)
   pub register : r ≡ k.node (length new)
 
 -- a field or an element as a value: one load

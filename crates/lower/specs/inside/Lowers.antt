@@ -4,9 +4,10 @@ use Rattle.c_tree.specs.ExprTree.{ExprTree}
 use Rattle.c_tree.specs.StmtTree as stmt
 use Rattle.c_tree.specs.StmtTree.{StmtTree, Statements, SimpleTree}
 use Rattle.ir.specs.declared.instruction.Instruction.{Instruction}
-use Rattle.ir.specs.declared.instruction.Instruction.TheVariants.{Jump, Branch, Tick}
+use Rattle.ir.specs.declared.instruction.Instruction.TheVariants.{Copy, Jump, Branch, Tick}
 use Rattle.lower.specs.Names.{Variables, inner_variables}
-use Rattle.lower.specs.Lowers.{Context, or_end, or_reg, or_code, third_end, third_code}
+use Rattle.lower.specs.Lowers.{Context, exp_end, reg_of, exp_code, or_end, or_reg, or_code}
+use Rattle.lower.specs.Lowers.{third_end, third_code}
 use Rattle.lower.specs.Lowers.{variables_after, stmt_end, stmt_code}
 
 -- a `for` after its first part: a tick, the condition, the body, the third part and the jump back;
@@ -15,6 +16,20 @@ abbrev pub loop_code : (on p : ℕ) → (condition body third : List Instruction
     → List Instruction
 loop_code on p condition body third out =
     Tick ∷ (condition ++ (Branch on out ∷ (body ++ (third ++ Jump p ∷ []))))
+
+-- the left side of `?` behind a branch over it, from p on; the condition is in the register `on`
+abbrev pub left_code : Context → Variables → (on : ℕ) → ExprTree → ℕ → List Instruction
+left_code s v on a p = Branch on (suc (suc (exp_end a (suc p)))) ∷ exp_code s v a (suc p)
+
+-- the right side, from p on, and a copy behind each side; the left one is in the register `left`
+abbrev pub other_end : ExprTree → ℕ → ℕ
+other_end b p = suc (exp_end b (suc (suc p)))
+
+abbrev pub other_code : Context → Variables → (left : ℕ) → ExprTree → ℕ → List Instruction
+other_code s v left b p =
+    let q : ℕ = exp_end b (suc (suc p)) in
+    Copy (s.node (suc q)) left ∷ Jump (suc q)
+    ∷ (exp_code s v b (suc (suc p)) ++ Copy (s.node (suc q)) (reg_of s v b q) ∷ [])
 
 abbrev pub variables_after_all : Context → Statements → ℕ → Variables → Variables
 variables_after_all s stmt.Nothing p v = v

@@ -13,7 +13,7 @@ use Rattle.c_types.specs.declared.broken.Broken.{Broken}
 use Rattle.c_types.specs.declared.broken.Rule.TheVariants.{Twice, Mismatch}
 use Rattle.c_types.specs.Broken.{unless}
 use Rattle.c_types.specs.LeastLaw.{IsAmong}
-use Rattle.c_types.specs.Fits.{is_int, type_takes, joins_types, applies}
+use Rattle.c_types.specs.Fits.{is_int, type_takes, comparable, joins_types, applies}
 use Rattle.c_types.specs.Tables.{Tables, function_named, declared_type}
 use Rattle.c_types.specs.Expressions.{Scope, arrow_broken, is_indexed, unindexed, kind_of, type_of}
 use Rattle.c_types.specs.Expressions.{call_broken, parameters_of, parameter_type, argument_count}
@@ -89,6 +89,18 @@ mutual
       (λ h. further t b (value_from t s y b (λ h. found_expression t s y b h) h)
       (λ p d. at.right d))
       (λ h. (part.Expression s (expr.Binary op place x y), at.itself, h)))
+  found_expression t s (expr.Conditional c place x y) b h =
+      let last = unless (comparable (type_of t s x) (type_of t s y)) place Mismatch in
+      either (value_broken t s c) (value_broken t s x ++ (value_broken t s y ++ last)) b h
+      (λ h. further t b (value_from t s c b (λ h. found_expression t s c b h) h)
+      (λ p d. at.condition d))
+      (λ h. either (value_broken t s x) (value_broken t s y ++ last) b h
+      (λ h. further t b (value_from t s x b (λ h. found_expression t s x b h) h)
+      (λ p d. at.left_side d))
+      (λ h. either (value_broken t s y) last b h
+      (λ h. further t b (value_from t s y b (λ h. found_expression t s y b h) h)
+      (λ p d. at.right_side d))
+      (λ h. (part.Expression s (expr.Conditional c place x y), at.itself, h))))
   found_expression t s (expr.Call name all) b h =
       let f = function_named t name.text in
       either (call_broken true f (argument_count all) name.place)

@@ -15,7 +15,8 @@ use Rattle.c_types.specs.declared.value_type.ValueType.{ValueType}
 use Rattle.c_types.specs.declared.value_type.ValueType.TheVariants.{Int, Pointer, Null, Any}
 use Rattle.c_types.specs.declared.value_type.Kind.{Kind}
 use Rattle.c_types.specs.declared.value_type.Kind.TheVariants.{Value, Array}
-use Rattle.c_types.specs.Fits.{is_any, is_int, type_takes, joins_types, applies}
+use Rattle.c_types.specs.Fits.{is_any, is_int, type_takes, comparable, common_type, joins_types}
+use Rattle.c_types.specs.Fits.{applies}
 use Rattle.c_types.specs.Tables.{Tables, StructTree, struct_named, function_named, field_named}
 use Rattle.c_types.specs.Tables.{root_struct, words_at, is_length, pointer_type, declared_type}
 use Rattle.c_types.specs.Expressions.{Scope, variable_type, type_of_kind, field_kind}
@@ -24,8 +25,9 @@ use Rattle.c_types.specs.Expressions.{may_call, call_type, result_type, paramete
 use Rattle.c_types.specs.Expressions.{parameter_type, argument_count, kind_of, all_taken, type_of}
 use Rattle.rules_law.specs.typed.Types.{StaticType, Number, PointerTo, NullPointer, value_type}
 use Rattle.rules_law.specs.typed.Types.{IsPointer, IsWritten, HasValueField, HasArray, AcceptsType}
+use Rattle.rules_law.specs.typed.Types.{Unites}
 use Rattle.rules_law.proofs.typed.Fitting.{applied_answer}
-use Rattle.rules_law.proofs.typed.Fitting.{joined_answer, declared_is}
+use Rattle.rules_law.proofs.typed.Fitting.{joined_answer, united, declared_is}
 use Rattle.rules_law.proofs.typed.Expressions.{IsRest, whole_rest, next_rest, rest_type, suc_zero}
 use Rattle.rules_law.proofs.typed.Expressions.{suc_same}
 use Rattle.rules_law.specs.rules.Given.{Types, GivesArray, AreTaken}
@@ -218,6 +220,14 @@ taken_by a b y is good =
     same z (inl e) = same_type y z (sym is ∙ e)
     same z (inr e) = any_not y (sym e ∙ is)
 
+-- both sides of `?` together
+united_answer : (a b : ValueType) (y z x : StaticType) → a ≡ value_type y → b ≡ value_type z
+    → comparable a b ≡ true → common_type a b ≡ value_type x → Unites y z x
+united_answer a b y z x is same good e =
+    let u = united y z (rw (is, same) at good) in
+    let f : common_type (value_type y) (value_type z) ≡ value_type x = rw (is, same) at e in
+    subst (Unites y z) (same_type x u.0 (sym f ∙ u.1)) u.2
+
 zero_suc : (n : ℕ) → 0 ≡ suc n → ⊥
 zero_suc n e = cc
 
@@ -302,6 +312,26 @@ mutual
         says_type (Types t s a) (GivesArray t s a) (kind_of t s a) p.0 (says t s a) p.1,
         says_type (Types t s b) (GivesArray t s b) (kind_of t s b) q.0 (says t s b) q.1,
         joined_answer op y z p.0 q.0 p.1 q.1 (and_parts one (not (is_any y)) left).0,
+      )
+  says t s (expr.Conditional c place a b) = λ x e.
+      let v : ValueType = type_of t s c in
+      let y : ValueType = type_of t s a in
+      let z : ValueType = type_of t s b in
+      let two : Bool = not (is_any v) && not (is_any y) in
+      let k = kept_of (comparable y z && (two && not (is_any z))) (common_type y z) x e in
+      let parts = and_parts (comparable y z) (two && not (is_any z)) k.0 in
+      let known = and_parts two (not (is_any z)) parts.1 in
+      let left = and_parts (not (is_any v)) (not (is_any y)) known.0 in
+      let o = static_of v (not-true (is_any v) left.0) in
+      let p = static_of y (not-true (is_any y) left.1) in
+      let q = static_of z (not-true (is_any z) known.1) in (
+        o.0,
+        says_type (Types t s c) (GivesArray t s c) (kind_of t s c) o.0 (says t s c) o.1,
+        p.0,
+        q.0,
+        says_type (Types t s a) (GivesArray t s a) (kind_of t s a) p.0 (says t s a) p.1,
+        says_type (Types t s b) (GivesArray t s b) (kind_of t s b) q.0 (says t s b) q.1,
+        united_answer y z p.0 q.0 x p.1 q.1 parts.0 k.1,
       )
   says t s (expr.Call name all) = call_by t s name all (function_named t name.text) refl
       (λ f n h. taken t s f.parameters f.parameters 0 all (whole_rest f.parameters) n h)

@@ -15,7 +15,8 @@ use Rattle.c_types.specs.Tables.{declared_type}
 use Rattle.c_types.specs.Expressions.{Scope, type_of_kind}
 use Rattle.c_types.specs.Expressions.{parameter_type, argument_count, kind_of, all_taken, type_of}
 use Rattle.rules_law.specs.typed.Types.{StaticType, Number, PointerTo, value_type, IsWritten}
-use Rattle.rules_law.proofs.typed.Fitting.{no_any, applied_fits, joined_fits, pointer_is}
+use Rattle.rules_law.proofs.typed.Fitting.{no_any, applied_fits, joined_fits, united_fits}
+use Rattle.rules_law.proofs.typed.Fitting.{pointer_is}
 use Rattle.rules_law.proofs.typed.Fitting.{declared_is}
 use Rattle.rules_law.proofs.typed.Expressions.{IsRest, whole_rest, next_rest, rest_type}
 use Rattle.rules_law.specs.rules.Given.{Types, GivesArray, AreTaken, EndsAt}
@@ -55,6 +56,17 @@ mutual
         no_any h.1,
         no_any h.2,
       ) refl
+  given_kind t s (expr.Conditional c place a b) x h =
+      let u = united_fits h.2 h.3 x h.6 in
+      rw (
+        given_kind t s c h.0 h.1,
+        given_kind t s a h.2 h.4,
+        given_kind t s b h.3 h.5,
+        u.0,
+        no_any h.0,
+        no_any h.2,
+        no_any h.3,
+      ) (ap Value u.1)
   given_kind t s (expr.Call name all) x h =
       let f : FunctionTree = h.0 in
       let passed : all_taken t s f.parameters 0 all ≡ true =
@@ -78,6 +90,7 @@ mutual
   given_array t s (expr.Index base place index) x h = absurd h
   given_array t s (expr.Unary op place a) x h = absurd h
   given_array t s (expr.Binary op place a b) x h = absurd h
+  given_array t s (expr.Conditional c place a b) x h = absurd h
 
   pub given_taken : (t : Tables) (s : List Scope) (ps qs : List ParameterTree) (i : ℕ)
       (all : Arguments) → IsRest ps i qs → AreTaken t s qs all → all_taken t s ps i all ≡ true
@@ -152,6 +165,7 @@ ends_same (expr.New place name) m n a b = absurd a
 ends_same (expr.Index base place index) m n a b = absurd a
 ends_same (expr.Unary op place c) m n a b = absurd a
 ends_same (expr.Binary op place c d) m n a b = absurd a
+ends_same (expr.Conditional c place d e) m n a b = absurd a
 
 pub given_at : (t : Tables) (s : List Scope) (e : ExprTree) (x : StaticType) (n : ℕ)
     → GivesArray t s e x → EndsAt e n → kind_of t s e ≡ Array (value_type x) n

@@ -7,6 +7,7 @@ use Rattle.std.specs.Option.{option_map_or}
 use Rattle.std.specs.Int.{w64, cast_unsigned}
 use Rattle.std.proofs.lemmas.Bool.Decides.{nat_tests}
 use Rattle.std.proofs.lemmas.Bool.{or_from, and_left, and_right, false≢true}
+use Rattle.c_tree.specs.declared.expr.BinaryOp.TheVariants as binary
 use Rattle.c_tree.specs.ExprTree.{Arguments, Ident}
 use Rattle.c_tree.specs.StmtTree.{TypeTree, InitialTree, DeclarationTree}
 use Rattle.c_tree.specs.ItemTree.{FieldTree, FunctionTree, LengthTree, ParameterTree}
@@ -21,7 +22,8 @@ use Rattle.c_types.specs.declared.broken.Rule.TheVariants.{NotAssignable, Arity,
 use Rattle.c_types.specs.declared.broken.Rule.TheVariants.{BadTx}
 use Rattle.c_types.specs.Broken.{broken_at, unless}
 use Rattle.c_types.specs.LeastLaw.{IsAmong}
-use Rattle.c_types.specs.Fits.{is_int, is_pointer, type_takes, joins_types, applies, assigns}
+use Rattle.c_types.specs.Fits.{is_int, is_pointer, type_takes, comparable, joins_types, applies}
+use Rattle.c_types.specs.Fits.{assigns}
 use Rattle.c_types.specs.Tables.{Tables, StructTree, index_of, field_names, is_first}
 use Rattle.c_types.specs.Tables.{function_names, function_named, struct_named, root_struct}
 use Rattle.c_types.specs.Tables.{words_of_struct, words_at, is_length, declared_type}
@@ -222,6 +224,10 @@ listed {t} (row.operands {s = s} {op = op} {place = place} {a = a} {b = b} never
     unless_told (joins_types op (type_of t s a) (type_of t s b)) place Mismatch
     (operands_no op (Types t s a) (Types t s b) (type_of t s a) (type_of t s b) (gives_is t s a)
     (gives_is t s b) never)
+listed {t} (row.sides {s = s} {place = place} {c = c} {a = a} {b = b} never) =
+    unless_told (comparable (type_of t s a) (type_of t s b)) place Mismatch
+    (operands_no binary.Equal (Types t s a) (Types t s b) (type_of t s a) (type_of t s b)
+    (gives_is t s a) (gives_is t s b) never)
 listed {t} (row.operand {s = s} {op = op} {place = place} {a = a} never) =
     unless_told (applies op (type_of t s a)) place Mismatch (operand_no op
     (Types t s a) (type_of t s a) (gives_is t s a) never)

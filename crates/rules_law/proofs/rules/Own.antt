@@ -9,6 +9,7 @@ use Rattle.std.proofs.lemmas.Bool.Decides.{nat_tests}
 use Rattle.std.proofs.lemmas.Option.{none-some, same_Some}
 use Rattle.std.proofs.lemmas.Bool.{not-false, and_cases, and_left, and_right, false≢true, or_parts}
 use Rattle.nvm_base.proofs.Tests.{same_from, same_true}
+use Rattle.c_tree.specs.declared.expr.BinaryOp.TheVariants as binary
 use Rattle.c_tree.specs.ExprTree.{ExprTree, Arguments, Ident}
 use Rattle.c_tree.specs.ExprTree as expr
 use Rattle.c_tree.specs.StmtTree.{SimpleTree, TypeTree, InitialTree, DeclarationTree}
@@ -26,7 +27,8 @@ use Rattle.c_types.specs.declared.broken.Rule.TheVariants.{NotAssignable, Arity,
 use Rattle.c_types.specs.declared.broken.Rule.TheVariants.{BadTx}
 use Rattle.c_types.specs.Broken.{broken_at, unless}
 use Rattle.c_types.specs.LeastLaw.{IsAmong}
-use Rattle.c_types.specs.Fits.{is_int, is_pointer, type_takes, joins_types, applies, assigns}
+use Rattle.c_types.specs.Fits.{is_int, is_pointer, type_takes, comparable, joins_types, applies}
+use Rattle.c_types.specs.Fits.{assigns}
 use Rattle.c_types.specs.Tables.{Tables, StructTree, RootTree, index_of, field_names, is_first}
 use Rattle.c_types.specs.Tables.{function_names, function_named, struct_named, root_struct}
 use Rattle.c_types.specs.Tables.{words_of_struct, words_at, is_length, declared_type}
@@ -66,6 +68,8 @@ own_expression t s (expr.Index base place index) =
 own_expression t s (expr.Unary op place a) = unless (applies op (type_of t s a)) place Mismatch
 own_expression t s (expr.Binary op place a b) =
     unless (joins_types op (type_of t s a) (type_of t s b)) place Mismatch
+own_expression t s (expr.Conditional c place a b) =
+    unless (comparable (type_of t s a) (type_of t s b)) place Mismatch
 
 abbrev pub own_simple : Tables → List Scope → SimpleTree → List Broken
 own_simple t s (stmt.Assign target op place e) =
@@ -223,6 +227,11 @@ rows_expression t s (expr.Binary op place x y) b h =
     (joins_types op (type_of t s x) (type_of t s y)) place Mismatch h
     (λ e. row.operands (no_operands op (Types t s x) (Types t s y) (type_of t s x) (type_of t s y)
     (gives_is t s x) (gives_is t s y) e))
+rows_expression t s (expr.Conditional c place x y) b h =
+    unless_of (Breaks t (part.Expression s (expr.Conditional c place x y))) b
+    (comparable (type_of t s x) (type_of t s y)) place Mismatch h
+    (λ e. row.sides (no_operands binary.Equal (Types t s x) (Types t s y) (type_of t s x)
+    (type_of t s y) (gives_is t s x) (gives_is t s y) e))
 
 rows_value : (t : Tables) (s : List Scope) (e : ExprTree) (b : Broken) (k : Kind)
     → kind_of t s e ≡ k → IsAmong b (unindexed k) → Breaks t (part.Value s e) b.rule b.place

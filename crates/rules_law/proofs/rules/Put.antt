@@ -13,7 +13,7 @@ use Rattle.c_types.specs.declared.broken.Broken.{Broken}
 use Rattle.c_types.specs.declared.broken.Rule.TheVariants.{Twice, Mismatch}
 use Rattle.c_types.specs.Broken.{unless}
 use Rattle.c_types.specs.LeastLaw.{IsAmong}
-use Rattle.c_types.specs.Fits.{is_int, type_takes, joins_types, applies}
+use Rattle.c_types.specs.Fits.{is_int, type_takes, comparable, joins_types, applies}
 use Rattle.c_types.specs.Tables.{Tables, function_named, declared_type}
 use Rattle.c_types.specs.Expressions.{Scope, arrow_broken, is_indexed, unindexed, kind_of, type_of}
 use Rattle.c_types.specs.Expressions.{call_broken, parameters_of, parameter_type, argument_count}
@@ -61,6 +61,10 @@ put_itself t s (expr.Unary op place a) b h =
 put_itself t s (expr.Binary op place x y) b h =
     third (value_broken t s x) (value_broken t s y)
     (unless (joins_types op (type_of t s x) (type_of t s y)) place Mismatch) b h
+put_itself t s (expr.Conditional c place x y) b h =
+    let last = unless (comparable (type_of t s x) (type_of t s y)) place Mismatch in
+    among_right (value_broken t s c) (value_broken t s x ++ (value_broken t s y ++ last)) b
+    (third (value_broken t s x) (value_broken t s y) last b h)
 
 mutual
   pub put_expression : (t : Tables) (b : Broken) {s : List Scope} {e : ExprTree} {p : Part}
@@ -88,6 +92,18 @@ mutual
       second (value_broken t s x) (value_broken t s y)
       (unless (joins_types op (type_of t s x) (type_of t s y)) place Mismatch) b
       (put_value t b d h)
+  put_expression t b {s} (at.condition {c = c} {a = x} {b = y} {place = place} d) h =
+      let last = unless (comparable (type_of t s x) (type_of t s y)) place Mismatch in
+      among_left (value_broken t s c) (value_broken t s x ++ (value_broken t s y ++ last)) b
+      (put_value t b d h)
+  put_expression t b {s} (at.left_side {c = c} {a = x} {b = y} {place = place} d) h =
+      let last = unless (comparable (type_of t s x) (type_of t s y)) place Mismatch in
+      second (value_broken t s c) (value_broken t s x) (value_broken t s y ++ last) b
+      (put_value t b d h)
+  put_expression t b {s} (at.right_side {c = c} {a = x} {b = y} {place = place} d) h =
+      let last = unless (comparable (type_of t s x) (type_of t s y)) place Mismatch in
+      among_right (value_broken t s c) (value_broken t s x ++ (value_broken t s y ++ last)) b
+      (second (value_broken t s x) (value_broken t s y) last b (put_value t b d h))
   put_expression t b {s} (at.called {name = name} {all = all}) h =
       among_left (call_broken true (function_named t name.text) (argument_count all) name.place)
       (broken_in_all t s (parameters_of (function_named t name.text)) 0 all) b h

@@ -17,11 +17,13 @@ use Rattle.c_types.specs.declared.value_type.Kind.TheVariants.{Value, Array}
 use Rattle.c_types.specs.declared.broken.Broken.{Broken}
 use Rattle.c_types.specs.declared.broken.Rule.TheVariants.{UnknownName, Mismatch, Arity, BadTx}
 use Rattle.c_types.specs.Broken.{broken_at, unless}
-use Rattle.c_types.specs.Fits.{is_any, is_int, type_takes, joins_types, applies}
+use Rattle.c_types.specs.Fits.{is_any, is_int, type_takes, comparable, common_type, joins_types}
+use Rattle.c_types.specs.Fits.{applies}
 use Rattle.c_types.specs.Tables.{Tables, function_named, root_struct, declared_type}
 use Rattle.c_types.specs.Expressions.{Scope, variable_type, type_of_kind, member, member_kind}
 use Rattle.c_types.specs.Expressions.{with_unindexed, arrow_kind, arrow_broken, is_indexed}
-use Rattle.c_types.specs.Expressions.{element_of, type_if, call_broken, call_type, result_type}
+use Rattle.c_types.specs.Expressions.{element_of, type_if, conditional_type, call_broken, call_type}
+use Rattle.c_types.specs.Expressions.{result_type}
 use Rattle.c_types.specs.Expressions.{parameters_of, parameter_type, argument_count, kind_of}
 use Rattle.c_types.specs.Expressions.{all_taken, type_of, broken_in, broken_in_all, value_broken}
 use Rattle.c_types.proofs.Unbroken.{none_left, none_right, some_none, holds}
@@ -30,6 +32,7 @@ use Rattle.rules_law.specs.typed.Types.{IsWritten, HasValueField, HasArray}
 use Rattle.rules_law.specs.typed.Expressions.{HasType, IsArray, ArePassed, IsTyped, IsTypedCall}
 use Rattle.rules_law.specs.typed.Programs.{IsResult}
 use Rattle.rules_law.proofs.typed.Fitting.{no_any, number_only, applied_answer, joined_answer}
+use Rattle.rules_law.proofs.typed.Fitting.{united}
 use Rattle.rules_law.proofs.typed.Fitting.{taken_answer, pointer_written, pointer_is, declared_is}
 use Rattle.rules_law.proofs.typed.Known.{AreKnown, variable_known, AreWritten, IsReady, function_at}
 use Rattle.rules_law.proofs.typed.Known.{Means, member_means}
@@ -159,6 +162,18 @@ type_if_two : (b c d : Bool) (ty : ValueType) (x : StaticType) → b ≡ true �
     → ty ≡ value_type x → type_if ((b && not c) && not d) ty ≡ value_type x
 type_if_two b c d ty x good any none is = rw (good, any, none) is
 
+-- both sides of `?` together
+compared_types : (a b : ValueType) (y z : StaticType) → a ≡ value_type y → b ≡ value_type z
+    → comparable a b ≡ true → comparable (value_type y) (value_type z) ≡ true
+compared_types a b y z is same good = rw (is, same) at good
+
+conditional_is : (c a b : ValueType) (v y z x : StaticType) → c ≡ value_type v
+    → a ≡ value_type y → b ≡ value_type z → comparable (value_type y) (value_type z) ≡ true
+    → common_type (value_type y) (value_type z) ≡ value_type x
+    → conditional_type c a b ≡ value_type x
+conditional_is c a b v y z x hc ha hb good is =
+    rw (hc, ha, hb, good, no_any v, no_any y, no_any z) is
+
 -- what is used as a value, by what it denotes where it breaks no rule
 value_from : (t : Tables) (s : List Scope) (e : ExprTree)
     → (broken_in t s e ≡ [] → Means (HasType t s e) (IsArray t s e) (kind_of t s e))
@@ -258,6 +273,28 @@ mutual
           joined_answer op
               (type_of t s x) (type_of t s y) l.0 r.0 l.1 r.1 good,
         ),
+      )
+  kind_means t s (expr.Conditional c place x y) ready known b =
+      let rest = none_right (value_broken t s c) _ b in
+      let last = none_right (value_broken t s x) _ rest in
+      let v : (z : StaticType) × (type_of t s c ≡ value_type z)
+      × HasType t s c z = value_from t s c (kind_means t s c ready known)
+      (none_left (value_broken t s c) _ b) in
+      let l : (z : StaticType) × (type_of t s x ≡ value_type z)
+      × HasType t s x z = value_from t s x (kind_means t s x ready known)
+      (none_left (value_broken t s x) _ rest) in
+      let r : (z : StaticType) × (type_of t s y ≡ value_type z)
+      × HasType t s y z = value_from t s y (kind_means t s y ready known)
+      (none_left (value_broken t s y) _ last) in
+      let good : comparable (type_of t s x) (type_of t s y) ≡ true =
+      holds (comparable (type_of t s x) (type_of t s y)) place Mismatch (none_right
+      (value_broken t s y) _ last) in
+      let fit = compared_types (type_of t s x) (type_of t s y) l.0 r.0 l.1 r.1 good in
+      let u = united l.0 r.0 fit in (
+        u.0,
+        conditional_is (type_of t s c) (type_of t s x) (type_of t s y) v.0 l.0 r.0 u.0 v.1 l.1 r.1
+            fit u.1,
+        (v.0, v.2, l.0, r.0, l.2, r.2, u.2),
       )
   kind_means t s (expr.Call name all) ready known b =
       let o : Option FunctionTree = function_named t name.text in

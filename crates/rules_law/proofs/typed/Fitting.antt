@@ -16,13 +16,14 @@ use Rattle.c_types.specs.declared.broken.Rule.TheVariants.{UnknownName, TooBig}
 use Rattle.c_types.specs.declared.fault.LimitKind.TheVariants as limit
 use Rattle.c_types.specs.Broken.{broken_at, unless}
 use Rattle.c_types.specs.Fits.{is_any, is_int, is_pointer, is_null, is_pointer_to, type_takes}
-use Rattle.c_types.specs.Fits.{comparable, joins_types, applies}
+use Rattle.c_types.specs.Fits.{comparable, common_type, joins_types, applies}
 use Rattle.c_types.specs.Tables.{Tables, struct_named, words_at, pointer_type, declared_type}
 use Rattle.c_types.specs.Expressions.{pointer_broken}
 use Rattle.c_types.specs.Statements.{type_broken}
 use Rattle.c_types.proofs.Unbroken.{some_none, holds}
 use Rattle.rules_law.specs.typed.Types.{StaticType, Number, PointerTo, NullPointer, value_type}
 use Rattle.rules_law.specs.typed.Types.{IsPointer, IsWritten, Applies, Compares, Joins, AcceptsType}
+use Rattle.rules_law.specs.typed.Types.{Unites}
 
 pub no_any : (x : StaticType) → is_any (value_type x) ≡ false
 no_any Number = refl
@@ -151,6 +152,36 @@ pub taken_fits : (x y : StaticType) → AcceptsType x y
 taken_fits x y h = ⊎_elim
     (λ (e : x ≡ y). rw (← e) (takes_itself x))
     (λ (e : (i : ℕ) × (x ≡ PointerTo i) × (y ≡ NullPointer)). rw (e.1, e.2) refl) h
+
+-- both sides of `?`
+pub united : (y z : StaticType) → comparable (value_type y) (value_type z) ≡ true
+    → (x : StaticType) × (common_type (value_type y) (value_type z) ≡ value_type x) × Unites y z x
+united Number z e = (Number, refl, inl (refl, taken Number z e))
+united (PointerTo i) z e = (PointerTo i, refl, inl (refl, taken (PointerTo i) z e))
+united NullPointer Number e = absurd (false≢true e)
+united NullPointer (PointerTo i) e = (PointerTo i, refl, inr (refl, inr (i, refl, refl)))
+united NullPointer NullPointer e = (NullPointer, refl, inl (refl, inl refl))
+
+abbrev AreTogether : StaticType → StaticType → StaticType → Type 0
+AreTogether y z x = (comparable (value_type y) (value_type z) ≡ true)
+    × (common_type (value_type y) (value_type z) ≡ value_type x)
+
+left_unites : (y z : StaticType) → AcceptsType y z → AreTogether y z y
+left_unites Number z h = (taken_fits Number z h, refl)
+left_unites (PointerTo i) z h = (taken_fits (PointerTo i) z h, refl)
+left_unites NullPointer z h = rw (null_only z (taken_fits NullPointer z h)) (refl, refl)
+
+right_unites : (y z : StaticType) → AcceptsType z y → AreTogether y z z
+right_unites y Number h = rw (number_only y (taken_fits Number y h)) (refl, refl)
+right_unites y (PointerTo i) h = ⊎_elim
+    (λ (e : y ≡ PointerTo i). rw e (same_true i, refl))
+    (λ (e : y ≡ NullPointer). rw e (refl, refl)) (pointer_to i y (taken_fits (PointerTo i) y h))
+right_unites y NullPointer h = rw (null_only y (taken_fits NullPointer y h)) (refl, refl)
+
+pub united_fits : (y z x : StaticType) → Unites y z x → AreTogether y z x
+united_fits y z x h = ⊎_elim
+    (λ (g : (x ≡ y) × AcceptsType y z). rw g.0 (left_unites y z g.1))
+    (λ (g : (x ≡ z) × AcceptsType z y). rw g.0 (right_unites y z g.1)) h
 
 -- the same of types that the check answers, which are those of the rules
 pub applied_answer : (op : UnaryOp) (a : ValueType) (x : StaticType) → a ≡ value_type x

@@ -44,6 +44,7 @@ target_form (expr.Call name all) is = absurd (false≢true is)
 target_form (expr.New place name) is = absurd (false≢true is)
 target_form (expr.Unary op place a) is = absurd (false≢true is)
 target_form (expr.Binary op place a b) is = absurd (false≢true is)
+target_form (expr.Conditional c place a b) is = absurd (false≢true is)
 
 assigned_types : (op : AssignOp) (x y : StaticType)
     → assigns op (value_type x) (value_type y) ≡ true → IsAssigned op x y

@@ -10,7 +10,7 @@ use Rattle.c_tree.specs.ItemTree.{FunctionTree, ParameterTree}
 use Rattle.c_types.specs.declared.value_type.Kind.TheVariants.{Value, Array}
 use Rattle.c_types.specs.declared.broken.Rule.TheVariants.{UnknownName, Mismatch, Arity, BadTx}
 use Rattle.c_types.specs.Broken.{unless}
-use Rattle.c_types.specs.Fits.{type_takes, joins_types, applies}
+use Rattle.c_types.specs.Fits.{type_takes, comparable, joins_types, applies}
 use Rattle.c_types.specs.Tables.{Tables, function_named, declared_type}
 use Rattle.c_types.specs.Expressions.{Scope, member, member_kind, callee_broken, call_broken}
 use Rattle.c_types.specs.Expressions.{parameters_of, parameter_type, argument_count, kind_of}
@@ -20,6 +20,7 @@ use Rattle.rules_law.specs.typed.Types.{HasArray}
 use Rattle.rules_law.specs.typed.Expressions.{HasType, IsArray, ArePassed, IsTypedCall}
 use Rattle.rules_law.proofs.typed.Broken.{none_both, kept}
 use Rattle.rules_law.proofs.typed.Fitting.{no_any, applied_fits, joined_fits, taken_fits}
+use Rattle.rules_law.proofs.typed.Fitting.{united_fits}
 use Rattle.rules_law.proofs.typed.Fitting.{pointer_is, pointer_kept, declared_is}
 use Rattle.rules_law.proofs.typed.Expressions.{IsRest, whole_rest, next_rest, rest_type}
 
@@ -75,6 +76,17 @@ mutual
         no_any h.1,
         no_any h.2,
       ) refl
+  typed_kind t s (expr.Conditional c place a b) x h =
+      let u = united_fits h.2 h.3 x h.6 in
+      rw (
+        typed_kind t s c h.0 h.1,
+        typed_kind t s a h.2 h.4,
+        typed_kind t s b h.3 h.5,
+        u.0,
+        no_any h.0,
+        no_any h.2,
+        no_any h.3,
+      ) (ap Value u.1)
   typed_kind t s (expr.Call name all) x h =
       let f : FunctionTree = h.0 in
       let passed : all_taken t s f.parameters 0 all ≡ true =
@@ -96,6 +108,7 @@ mutual
   array_kind t s (expr.Index base place index) x h = absurd h
   array_kind t s (expr.Unary op place a) x h = absurd h
   array_kind t s (expr.Binary op place a b) x h = absurd h
+  array_kind t s (expr.Conditional c place a b) x h = absurd h
 
   pub passed_taken : (t : Tables) (s : List Scope) (ps qs : List ParameterTree) (i : ℕ)
       (all : Arguments) → IsRest ps i qs → ArePassed t s qs all → all_taken t s ps i all ≡ true
@@ -179,6 +192,12 @@ mutual
       (typed_kept t s b h.2 h.4))
       (kept (joins_types op (type_of t s a) (type_of t s b)) place Mismatch (rw
       (typed_is t s a h.1 h.3, typed_is t s b h.2 h.4) (joined_fits op h.1 h.2 h.5))))
+  typed_kept t s (expr.Conditional c place a b) x h =
+      none_both (value_broken t s c) _ (used_kept t s c h.0 h.1 (typed_kept t s c h.0 h.1))
+      (none_both (value_broken t s a) _ (used_kept t s a h.2 h.4 (typed_kept t s a h.2 h.4))
+      (none_both (value_broken t s b) _ (used_kept t s b h.3 h.5 (typed_kept t s b h.3 h.5))
+      (kept (comparable (type_of t s a) (type_of t s b)) place Mismatch (rw
+      (typed_is t s a h.2 h.4, typed_is t s b h.3 h.5) (united_fits h.2 h.3 x h.6).0))))
   typed_kept t s (expr.Call name all) x h =
       let f : FunctionTree = h.0 in
       let gives : is_some f.result_type ≡ true = rw h.2 refl in
@@ -203,6 +222,7 @@ mutual
   array_kept t s (expr.Index base place index) x h = absurd h
   array_kept t s (expr.Unary op place a) x h = absurd h
   array_kept t s (expr.Binary op place a b) x h = absurd h
+  array_kept t s (expr.Conditional c place a b) x h = absurd h
 
   pub passed_kept : (t : Tables) (s : List Scope) (ps qs : List ParameterTree) (i : ℕ)
       (all : Arguments) → IsRest ps i qs → ArePassed t s qs all → broken_in_all t s ps i all ≡ []

@@ -41,6 +41,7 @@ array_form t s (expr.New place name) x h = absurd h
 array_form t s (expr.Index base place index) x h = absurd h
 array_form t s (expr.Unary op place a) x h = absurd h
 array_form t s (expr.Binary op place a b) x h = absurd h
+array_form t s (expr.Conditional c place a b) x h = absurd h
 
 target_form : (t : Tables) (s : List Scope) (e : ExprTree) (x : StaticType) → IsAssignable e
     → HasType t s e x → is_target e ≡ true
@@ -54,6 +55,7 @@ target_form t s (expr.Call name all) x is h = absurd is
 target_form t s (expr.New place name) x is h = absurd is
 target_form t s (expr.Unary op place a) x is h = absurd is
 target_form t s (expr.Binary op place a b) x is h = absurd is
+target_form t s (expr.Conditional c place a b) x is h = absurd is
 
 assigned_fits : (op : AssignOp) (x y : StaticType) → IsAssigned op x y
     → assigns op (value_type x) (value_type y) ≡ true

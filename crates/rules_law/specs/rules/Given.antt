@@ -11,7 +11,7 @@ use Rattle.c_types.specs.Tables.{Tables, function_named, root_struct}
 use Rattle.c_types.specs.Expressions.{Scope, variable_type}
 use Rattle.rules_law.specs.typed.Types.{StaticType, Number, PointerTo, NullPointer, value_type}
 use Rattle.rules_law.specs.typed.Types.{IsPointer, IsWritten, HasValueField, HasArray, Applies}
-use Rattle.rules_law.specs.typed.Types.{Joins, AcceptsType}
+use Rattle.rules_law.specs.typed.Types.{Joins, AcceptsType, Unites}
 
 -- Something whose type F says may have the type x: it has, or it has none, since it was refused. So
 -- a rule that no type keeps is broken, and one that some type would keep isn't.
@@ -35,6 +35,8 @@ abbrev mutual
   Types t s (expr.Binary op place a b) x =
       (x ≡ Number) × (y : StaticType) × (z : StaticType) × Types t s a y × Types t s b z
       × Joins op y z
+  Types t s (expr.Conditional c place a b) x = (u : StaticType) × Types t s c u
+      × (y : StaticType) × (z : StaticType) × Types t s a y × Types t s b z × Unites y z x
   Types t s (expr.Call name all) x = (f : FunctionTree) × (ty : TypeTree)
       × (f.result_type ≡ Some ty)
       × IsWritten t ty x × (function_named t name.text ≡ Some f) × (f.tx ≡ false)
@@ -53,6 +55,7 @@ abbrev mutual
   GivesArray t s (expr.Index base place index) x = ⊥
   GivesArray t s (expr.Unary op place a) x = ⊥
   GivesArray t s (expr.Binary op place a b) x = ⊥
+  GivesArray t s (expr.Conditional c place a b) x = ⊥
 
   -- as many arguments as parameters, each of a type that its parameter may take
   pub AreTaken : Tables → List Scope → List ParameterTree → Arguments → Type 0
@@ -75,3 +78,4 @@ EndsAt (expr.New place name) n = ⊥
 EndsAt (expr.Index base place index) n = ⊥
 EndsAt (expr.Unary op place a) n = ⊥
 EndsAt (expr.Binary op place a b) n = ⊥
+EndsAt (expr.Conditional c place a b) n = ⊥

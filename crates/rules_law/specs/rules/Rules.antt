@@ -9,6 +9,7 @@ use Rattle.c_tree.specs.StmtTree.{TypeTree, InitialTree, DeclarationTree}
 use Rattle.c_tree.specs.StmtTree as stmt
 use Rattle.c_tree.specs.ItemTree.{FieldTree, FunctionTree, LengthTree, ParameterTree}
 use Rattle.c_tree.specs.declared.expr.BinaryOp.{BinaryOp}
+use Rattle.c_tree.specs.declared.expr.BinaryOp.TheVariants as binary
 use Rattle.c_tree.specs.declared.expr.UnaryOp.{UnaryOp}
 use Rattle.c_tree.specs.declared.stmt.AssignOp.{AssignOp}
 use Rattle.c_tree.specs.declared.stmt.StepOp.{StepOp}
@@ -93,6 +94,10 @@ pub data Breaks (t : Tables) : Part → Rule → (place : ℕ) → Type 0 where
   operands : {s : List Scope} {op : BinaryOp} {place : ℕ} {a b : ExprTree}
       → NoOperands op (Types t s a) (Types t s b)
       → Breaks t (part.Expression s (expr.Binary op place a b)) Mismatch place
+  -- both sides of `?` that don't compare as those of `==` do; the `?`
+  sides : {s : List Scope} {place : ℕ} {c a b : ExprTree}
+      → NoOperands binary.Equal (Types t s a) (Types t s b)
+      → Breaks t (part.Expression s (expr.Conditional c place a b)) Mismatch place
   -- an operand of unary `-` or `~` isn't an int; the operator
   operand : {s : List Scope} {op : UnaryOp} {place : ℕ} {a : ExprTree}
       → NoOperand op (Types t s a)

@@ -40,6 +40,12 @@ mutual
         → InValue s a p → InExpression s (expr.Binary op place a b) p
     right : {op : BinaryOp} {a b : ExprTree} {place : ℕ} {p : Part}
         → InValue s b p → InExpression s (expr.Binary op place a b) p
+    condition : {c a b : ExprTree} {place : ℕ} {p : Part}
+        → InValue s c p → InExpression s (expr.Conditional c place a b) p
+    left_side : {c a b : ExprTree} {place : ℕ} {p : Part}
+        → InValue s a p → InExpression s (expr.Conditional c place a b) p
+    right_side : {c a b : ExprTree} {place : ℕ} {p : Part}
+        → InValue s b p → InExpression s (expr.Conditional c place a b) p
     called : {name : Ident} {all : Arguments}
         → InExpression s (expr.Call name all) (part.Called true name all)
     arguments : {name : Ident} {all : Arguments} {p : Part}

@@ -9,7 +9,7 @@ use Rattle.c_types.specs.Tables.{Tables, function_named, root_struct}
 use Rattle.c_types.specs.Expressions.{Scope, variable_type}
 use Rattle.rules_law.specs.typed.Types.{StaticType, Number, PointerTo, NullPointer, value_type}
 use Rattle.rules_law.specs.typed.Types.{IsPointer, IsWritten, HasValueField, HasArray, Applies}
-use Rattle.rules_law.specs.typed.Types.{Joins, AcceptsType}
+use Rattle.rules_law.specs.typed.Types.{Joins, AcceptsType, Unites}
 
 abbrev mutual
   pub HasType : Tables → List Scope → ExprTree → StaticType → Type 0
@@ -29,6 +29,9 @@ abbrev mutual
   HasType t s (expr.Binary op place a b) x =
       (x ≡ Number) × (y : StaticType) × (z : StaticType) × HasType t s a y × HasType t s b z
       × Joins op y z
+  -- the condition may have any type
+  HasType t s (expr.Conditional c place a b) x = (u : StaticType) × HasType t s c u
+      × (y : StaticType) × (z : StaticType) × HasType t s a y × HasType t s b z × Unites y z x
   -- a call that is used gives a value
   HasType t s (expr.Call name all) x = (f : FunctionTree) × (ty : TypeTree)
       × (f.result_type ≡ Some ty)
@@ -48,6 +51,7 @@ abbrev mutual
   IsArray t s (expr.Index base place index) x = ⊥
   IsArray t s (expr.Unary op place a) x = ⊥
   IsArray t s (expr.Binary op place a b) x = ⊥
+  IsArray t s (expr.Conditional c place a b) x = ⊥
 
   -- as many arguments as parameters, each of a type that its parameter takes
   pub ArePassed : Tables → List Scope → List ParameterTree → Arguments → Type 0

@@ -27,6 +27,7 @@ IsAssignable (expr.Call name all) = ⊥
 IsAssignable (expr.New place name) = ⊥
 IsAssignable (expr.Unary op place a) = ⊥
 IsAssignable (expr.Binary op place a b) = ⊥
+IsAssignable (expr.Conditional c place a b) = ⊥
 
 -- `=` gives what the target takes; the operators that update join two numbers
 abbrev pub IsAssigned : AssignOp → StaticType → StaticType → Type 0

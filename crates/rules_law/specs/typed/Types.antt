@@ -95,3 +95,7 @@ Joins binary.Or x y = AreNumbers x y
 -- a value is given to what has its type, and null to a pointer, too
 abbrev pub AcceptsType : (target value : StaticType) → Type 0
 AcceptsType x y = (x ≡ y) ⊎ ((i : ℕ) × (x ≡ PointerTo i) × (y ≡ NullPointer))
+
+-- the type of both sides of `?` together: that of one side, to which the other may be given
+abbrev pub Unites : (left right both : StaticType) → Type 0
+Unites y z x = ((x ≡ y) × AcceptsType y z) ⊎ ((x ≡ z) × AcceptsType z y)

@@ -11,8 +11,9 @@ use Rattle.c_tree.specs.declared.expr.UnaryOp.TheVariants as unary
 use Rattle.c_tree.specs.Kinds.{ident_at, value_at}
 use Rattle.c_tree.specs.ExprTree.{ExprTree, Ident}
 use Rattle.c_tree.specs.ExprTree as tree
-use Rattle.c_tree.specs.Spelling.{Level, level_zero, level_suc, Chain, chain_end, chain_more, Unary}
-use Rattle.c_tree.specs.Spelling.{signed, unsigned, Postfix, postfix, Parts, parts_end, field}
+use Rattle.c_tree.specs.Spelling.{Expression, unconditional, conditional, Level, level_zero}
+use Rattle.c_tree.specs.Spelling.{level_suc, Chain, chain_end, chain_more, Unary, signed, unsigned}
+use Rattle.c_tree.specs.Spelling.{Postfix, postfix, Parts, parts_end, field}
 use Rattle.c_tree.specs.Spelling.{element, Primary, number, null, variable, call, root, new}
 use Rattle.c_tree.specs.Spelling.{brackets, SpellsArguments, no_arguments, arguments, MoreArguments}
 use Rattle.c_tree.specs.Spelling.{no_more, more}
@@ -93,6 +94,20 @@ binary_words k o place a b ha hb v p =
       tt,
     )
 
+conditional_words : (k : Context) (c : ExprTree) (place : ℕ) (a b : ExprTree) → ExpWords k c
+    → ExpWords k a → ExpWords k b → ExpWords k (tree.Conditional c place a b)
+conditional_words k c place a b hc ha hb v p =
+    let p1 : ℕ = exp_end c p in
+    let p2 : ℕ = exp_end a (suc p1) in
+    let q : ℕ = suc (suc p2) in (
+      both_words (exp_code k v c p) _ (hc v p).0 (
+        tt,
+        both_words (exp_code k v a (suc p1)) _ (ha v (suc p1)).0
+            (tt, (tt, both_words (exp_code k v b q) _ (hb v q).0 (tt, tt))),
+      ),
+      tt,
+    )
+
 unary_words : (k : Context) (o : UnaryOp) (place : ℕ) (a : ExprTree) → ExpWords k a
     → ExpWords k (tree.Unary o place a)
 unary_words k unary.Negate place a h v p =
@@ -120,7 +135,13 @@ call_words k name all h v p = (both_words (arguments_code k v all p) _ (h v p) (
 
 module _ (k : Context) (ts : List Placed) (words : (i : ℕ) → IsWord (value_at ts i)) where
   mutual
-    pub level_words : {l i j : ℕ} {e : ExprTree} → Level ts l i j e → ExpWords k e
+    pub expression_words : {i j : ℕ} {e : ExprTree} → Expression ts i j e → ExpWords k e
+    expression_words (unconditional h) = level_words h
+    expression_words (conditional {m = m} {c = c} {a = a} {b = b} h is left colon right) =
+        conditional_words k c m a b (level_words h) (expression_words left)
+        (expression_words right)
+
+    level_words : {l i j : ℕ} {e : ExprTree} → Level ts l i j e → ExpWords k e
     level_words (level_zero h) = prefix_words h
     level_words (level_suc first chain) = chain_words (level_words first) chain
 
@@ -141,7 +162,7 @@ module _ (k : Context) (ts : List Placed) (words : (i : ℕ) → IsWord (value_a
     parts_words h (field {i = i} {a = a} arrow name parts) =
         parts_words (arrow_words k a i (ident_at ts (i + 1)) h) parts
     parts_words h (element {i = i} {a = a} {b = b} opens index closes parts) =
-        parts_words (index_words k a b i h (level_words index)) parts
+        parts_words (index_words k a b i h (expression_words index)) parts
 
     primary_words : {i j : ℕ} {e : ExprTree} → Primary ts i j e → ExpWords k e
     primary_words (number {i = i} is) v p = ((words i, tt), tt)
@@ -151,15 +172,17 @@ module _ (k : Context) (ts : List Placed) (words : (i : ℕ) → IsWord (value_a
         call_words k (ident_at ts i) all (arguments_words h) v p
     primary_words (root is dot name) v p = ((tt, tt), tt)
     primary_words (new is opens word name closes) v p = ((tt, tt), tt)
-    primary_words (brackets opens h closes) v p = level_words h v p
+    primary_words (brackets opens h closes) v p = expression_words h v p
 
     pub arguments_words : {i j : ℕ} {all : tree.Arguments} → SpellsArguments ts i j all
         → ArgumentWords k all
     arguments_words (no_arguments closes) v p = tt
     arguments_words (arguments {e = e} h others) v p =
-        both_words (exp_code k v e p) _ (level_words h v p).0 (more_words others v (exp_end e p))
+        both_words (exp_code k v e p) _ (expression_words h v p).0
+        (more_words others v (exp_end e p))
 
     more_words : {i j : ℕ} {all : tree.Arguments} → MoreArguments ts i j all → ArgumentWords k all
     more_words (no_more closes) v p = tt
     more_words (more {e = e} comma h others) v p =
-        both_words (exp_code k v e p) _ (level_words h v p).0 (more_words others v (exp_end e p))
+        both_words (exp_code k v e p) _ (expression_words h v p).0
+        (more_words others v (exp_end e p))

@@ -158,6 +158,27 @@ mutual
       both_plain t (exp_code k v x p) _ (exp_plain k s v x p h bx)
       (form_plain t (form_of o) k.node (exp_code k v y) (exp_end y) (reg_of k v y) (reg_of k v x q)
       q (λ z. exp_plain k s v y z h by))
+  exp_plain k s v (expr.Conditional c place x y) p h b =
+      let t : Tables = k.tables in
+      let p1 : ℕ = exp_end c p in
+      let p2 : ℕ = exp_end x (suc p1) in
+      let sides = none_right (value_broken t s c) _ b in
+      let bc : broken_in t s c ≡ [] = value_own t s c (none_left (value_broken t s c) _ b) in
+      let bx : broken_in t s x ≡ [] = value_own t s x (none_left (value_broken t s x) _ sides) in
+      let by : broken_in t s y ≡ [] =
+      value_own t s y (none_left (value_broken t s y) _
+      (none_right (value_broken t s x) _ sides)) in
+      both_plain t (exp_code k v c p) _ (exp_plain k s v c p h bc) (
+        tt,
+        both_plain t (exp_code k v x (suc p1)) _ (exp_plain k s v x (suc p1) h bx) (
+          tt,
+          (
+            tt,
+            both_plain t (exp_code k v y (suc (suc p2))) _
+                (exp_plain k s v y (suc (suc p2)) h by) (tt, tt),
+          ),
+        ),
+      )
 
   pub target_plain : (k : Context) (s : List Scope) (v : Variables) (e : ExprTree) (p : ℕ)
       → IsSane k.tables → broken_in k.tables s e ≡ [] → AllPlain k.tables (target_code k v e p)
@@ -179,6 +200,7 @@ mutual
   target_plain k s v (expr.New place name) p h b = tt
   target_plain k s v (expr.Unary o place x) p h b = tt
   target_plain k s v (expr.Binary o place x y) p h b = tt
+  target_plain k s v (expr.Conditional c place x y) p h b = tt
 
   pub arguments_plain : (k : Context) (s : List Scope) (v : Variables) (ps : List ParameterTree)
       (i : ℕ) (es : Arguments) (p : ℕ) → IsSane k.tables → broken_in_all k.tables s ps i es ≡ []

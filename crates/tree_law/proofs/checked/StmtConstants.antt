@@ -38,7 +38,7 @@ use Rattle.lower.specs.Lowers.{statements_end, statements_code}
 use Rattle.lower.specs.Program.{parameters_end, parameters_code, variables_after_parameters}
 use Rattle.lower.specs.Program.{no_variables, context_at, lowered_function}
 use Rattle.tree_law.proofs.checked.ExprConstants.{AreWords, both_words, zero_word, one_word}
-use Rattle.tree_law.proofs.checked.ExprConstants.{ExpWords, level_words, postfix_words}
+use Rattle.tree_law.proofs.checked.ExprConstants.{ExpWords, expression_words, postfix_words}
 use Rattle.tree_law.proofs.checked.ExprConstants.{arguments_words}
 
 abbrev OrWords : Context → Option ExprTree → Type 0
@@ -101,15 +101,15 @@ module _ (k : Context) (ts : List Placed) (words : (i : ℕ) → IsWord (value_a
   declares_words : {i j : ℕ} {d : DeclarationTree} → Declares ts i j d → InitialWords k d.initial
   declares_words (plain typed name) v p = (zero_word, tt)
   declares_words (initial {e = e} typed name is h) v p =
-      both_words (exp_code k v e p) _ (level_words k ts words h v p).0 (tt, tt)
+      both_words (exp_code k v e p) _ (expression_words k ts words h v p).0 (tt, tt)
 
   bracketed_words : {i j : ℕ} {e : ExprTree} → Bracketed ts i j e → ExpWords k e
-  bracketed_words (bracketed opens h closes) = level_words k ts words h
+  bracketed_words (bracketed opens h closes) = expression_words k ts words h
 
   acts_words : {i j : ℕ} {a : ExprTree} {x : SimpleTree} → ExpWords k a → Acts ts i j a x
       → SimpleWords k x
   acts_words h (assigns {i = i} {a = a} {e = e} o is value) =
-      assign_words k o a i e h (level_words k ts words value)
+      assign_words k o a i e h (expression_words k ts words value)
   acts_words h (steps {i = i} {a = a} o is) =
       λ v p. update_words k v (variable_of a) a i (step_operation o) None p h (none_words k)
 
@@ -129,7 +129,7 @@ module _ (k : Context) (ts : List Placed) (words : (i : ℕ) → IsWord (value_a
 
   value_words : {i j : ℕ} {c : Option ExprTree} → ValuePart ts i j c → OrWords k c
   value_words value_none = none_words k
-  value_words (value_some {e = e} h) = some_words k e (level_words k ts words h)
+  value_words (value_some {e = e} h) = some_words k e (expression_words k ts words h)
 
   third_words : {i j : ℕ} {x : Option SimpleTree} → ThirdPart ts i j x → ThirdWords k x
   third_words third_none v p = tt

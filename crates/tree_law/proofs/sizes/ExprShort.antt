@@ -7,8 +7,9 @@ use Rattle.c_tree.specs.declared.expr.UnaryOp.TheVariants as unary
 use Rattle.c_tree.specs.Kinds.{ident_at}
 use Rattle.c_tree.specs.ExprTree.{ExprTree, Ident}
 use Rattle.c_tree.specs.ExprTree as tree
-use Rattle.c_tree.specs.Spelling.{Level, level_zero, level_suc, Chain, chain_end, chain_more, Unary}
-use Rattle.c_tree.specs.Spelling.{signed, unsigned, Postfix, postfix, Parts, parts_end, field}
+use Rattle.c_tree.specs.Spelling.{Expression, unconditional, conditional, Level, level_zero}
+use Rattle.c_tree.specs.Spelling.{level_suc, Chain, chain_end, chain_more, Unary, signed, unsigned}
+use Rattle.c_tree.specs.Spelling.{Postfix, postfix, Parts, parts_end, field}
 use Rattle.c_tree.specs.Spelling.{element, Primary, number, null, variable, call, root, new}
 use Rattle.c_tree.specs.Spelling.{brackets, SpellsArguments, no_arguments, arguments, MoreArguments}
 use Rattle.c_tree.specs.Spelling.{no_more, more}
@@ -38,6 +39,7 @@ target_end_small (tree.Call name all) p = exp_end_le (tree.Call name all) p
 target_end_small (tree.New place name) p = omega arith
 target_end_small (tree.Unary o place a) p = exp_end_le (tree.Unary o place a) p
 target_end_small (tree.Binary o place a b) p = exp_end_le (tree.Binary o place a b) p
+target_end_small (tree.Conditional c place a b) p = exp_end_le (tree.Conditional c place a b) p
 
 form_short : (form : Form) (right : ℕ → ℕ) (i j : ℕ) → ((p : ℕ) → right p + 2 + 4 * i ≤ p + 4 * j)
     → (p : ℕ) → form_end form right p + 4 * i ≤ p + 4 * j + 4
@@ -50,6 +52,13 @@ binary_short : (o : BinaryOp) (a b : ExprTree) (k i j : ℕ) → Shorter a k i �
     → Shorter (tree.Binary o i a b) k j
 binary_short o a b k i j ha hb p =
     omega (arith, ha p, form_short (form_of o) (exp_end b) (i + 1) j hb (exp_end a p))
+
+conditional_short : (c a b : ExprTree) (i m n j : ℕ) → Shorter c i m → Shorter a (m + 1) n
+    → Shorter b (n + 1) j → Shorter (tree.Conditional c m a b) i j
+conditional_short c a b i m n j hc ha hb p =
+    let p1 : ℕ = exp_end c p in
+    let p2 : ℕ = exp_end a (suc p1) in
+    omega (arith, hc p, ha (suc p1), hb (suc (suc p2)))
 
 unary_short : (o : UnaryOp) (a : ExprTree) (i j : ℕ) → Shorter a (i + 1) j
     → Shorter (tree.Unary o i a) i j
@@ -70,7 +79,15 @@ call_short : (name : Ident) (all : tree.Arguments) (i j : ℕ)
 call_short name all i j h p = omega (arith, h p)
 
 mutual
-  pub level_short : {ts : List Placed} {l i j : ℕ} {e : ExprTree} → Level ts l i j e → Shorter e i j
+  pub expression_short : {ts : List Placed} {i j : ℕ} {e : ExprTree} → Expression ts i j e
+      → Shorter e i j
+  expression_short (unconditional h) = level_short h
+  expression_short (conditional {i = i} {m = m} {n = n} {j = j} {c = c} {a = a} {b = b} h is left
+      colon right) =
+      conditional_short c a b i m n j (level_short h) (expression_short left)
+      (expression_short right)
+
+  level_short : {ts : List Placed} {l i j : ℕ} {e : ExprTree} → Level ts l i j e → Shorter e i j
   level_short (level_zero h) = prefix_short h
   level_short (level_suc {i = i} first chain) = chain_short i (level_short first) chain
 
@@ -94,7 +111,7 @@ mutual
   parts_short {ts} k h (field {i = i} {a = a} arrow name parts) =
       parts_short k (arrow_short a (ident_at ts (i + 1)) k i h) parts
   parts_short k h (element {i = i} {m = m} {a = a} {b = b} opens index closes parts) =
-      parts_short k (index_short a b k i m h (level_short index)) parts
+      parts_short k (index_short a b k i m h (expression_short index)) parts
 
   primary_short : {ts : List Placed} {i j : ℕ} {e : ExprTree} → Primary ts i j e → Shorter e i j
   primary_short (number is) p = omega arith
@@ -104,16 +121,16 @@ mutual
       call_short (ident_at ts i) all i j (arguments_short h) p
   primary_short (root is dot name) p = omega arith
   primary_short (new is opens word name closes) p = omega arith
-  primary_short (brackets opens h closes) p = omega (arith, level_short h p)
+  primary_short (brackets opens h closes) p = omega (arith, expression_short h p)
 
   pub arguments_short : {ts : List Placed} {i j : ℕ} {all : tree.Arguments}
       → SpellsArguments ts i j all → Short (arguments_end all) i j
   arguments_short (no_arguments closes) p = omega arith
   arguments_short (arguments {e = e} h others) p =
-      omega (arith, level_short h p, more_short others (exp_end e p))
+      omega (arith, expression_short h p, more_short others (exp_end e p))
 
   more_short : {ts : List Placed} {i j : ℕ} {all : tree.Arguments} → MoreArguments ts i j all
       → Short (arguments_end all) i j
   more_short (no_more closes) p = omega arith
   more_short (more {e = e} comma h others) p =
-      omega (arith, level_short h p, more_short others (exp_end e p))
+      omega (arith, expression_short h p, more_short others (exp_end e p))

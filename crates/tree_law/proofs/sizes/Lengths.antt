@@ -62,6 +62,11 @@ mutual
       let q : ℕ = exp_end a p in
       joined (exp_leads k v a p) (form_leads (form_of o) k.node (exp_code k v b) (exp_end b)
       (reg_of k v b) (reg_of k v a q) q (λ x. exp_leads k v b x))
+  exp_leads k v (expr.Conditional c place a b) p =
+      let p1 : ℕ = exp_end c p in
+      let p2 : ℕ = exp_end a (suc p1) in
+      joined (exp_leads k v c p) (first (joined (exp_leads k v a (suc p1))
+      (first (first (joined (exp_leads k v b (suc (suc p2))) one)))))
 
   pub target_leads : (k : Context) (v : Variables) (e : ExprTree) (p : ℕ)
       → Leads p (target_code k v e p) (target_end e p)
@@ -76,6 +81,7 @@ mutual
   target_leads k v (expr.New place name) p = none
   target_leads k v (expr.Unary o place a) p = none
   target_leads k v (expr.Binary o place a b) p = none
+  target_leads k v (expr.Conditional c place a b) p = none
 
   pub arguments_lead : (k : Context) (v : Variables) (es : Arguments) (p : ℕ)
       → Leads p (arguments_code k v es p) (arguments_end es p)

@@ -19,7 +19,7 @@ use Rattle.lower.specs.Names.{variable_of}
 use Rattle.lower.specs.Lowers.{exp_end, target_end, or_end, set_end, update_end, simple_end}
 use Rattle.lower.specs.Lowers.{initial_end, first_end, third_end, stmt_end, statements_end}
 use Rattle.lower.proofs.Ends.{exp_end_le}
-use Rattle.tree_law.proofs.sizes.ExprShort.{Short, Shorter, target_end_small, level_short}
+use Rattle.tree_law.proofs.sizes.ExprShort.{Short, Shorter, target_end_small, expression_short}
 use Rattle.tree_law.proofs.sizes.ExprShort.{postfix_short, arguments_short}
 
 pub typed_grows : {ts : List Placed} {i j : ℕ} {t : TypeTree} → Typed ts i j t → i + 1 ≤ j
@@ -29,10 +29,11 @@ typed_grows (pointer is name star) = omega arith
 declares_short : {ts : List Placed} {i j : ℕ} {d : DeclarationTree} → Declares ts i j d
     → Short (initial_end d.initial) i j
 declares_short (plain typed name) p = omega (arith, typed_grows typed)
-declares_short (initial typed name sets h) p = omega (arith, typed_grows typed, level_short h p)
+declares_short (initial typed name sets h) p =
+    omega (arith, typed_grows typed, expression_short h p)
 
 bracketed_short : {ts : List Placed} {i j : ℕ} {e : ExprTree} → Bracketed ts i j e → Shorter e i j
-bracketed_short (bracketed opens h closes) p = omega (arith, level_short h p)
+bracketed_short (bracketed opens h closes) p = omega (arith, expression_short h p)
 
 set_short : (name : Option Ident) (a e : ExprTree) (k i j : ℕ) → Shorter a k i → Shorter e (i + 1) j
     → Short (set_end name a e) k j
@@ -56,7 +57,7 @@ assign_short (assign.Update o) a e k i j ha he =
 acts_short : {ts : List Placed} {i j : ℕ} {a : ExprTree} {x : SimpleTree} (k : ℕ) → Shorter a k i
     → Acts ts i j a x → Short (simple_end x) k j
 acts_short k h (assigns {i = i} {j = j} {a = a} {e = e} o is value) =
-    assign_short o a e k i j h (level_short value)
+    assign_short o a e k i j h (expression_short value)
 acts_short k h (steps {i = i} {a = a} o is) =
     update_short (variable_of a) a None k i (i + 1) h (λ p. omega arith)
 
@@ -82,7 +83,7 @@ third_short (third_some h) p = simply_short h p
 value_short : {ts : List Placed} {i j : ℕ} {e : Option ExprTree} → ValuePart ts i j e → (p : ℕ)
     → or_end e p + 4 * i ≤ p + 4 * j + 1
 value_short value_none p = omega arith
-value_short (value_some h) p = omega (arith, level_short h p)
+value_short (value_some h) p = omega (arith, expression_short h p)
 
 mutual
   stmt_short : {ts : List Placed} {loop : Bool} {i j : ℕ} {x : StmtTree} → Spells ts loop i j x

@@ -10,6 +10,9 @@ use Rattle.c_parser.proofs.build_expr.+expressions.Given as goal
 abbrev pub decreases-expression : goal.decreases-expression
 decreases-expression l = 16 * (length l.tokens.now.tokens + 2 - l.at) + 14
 
+abbrev pub decreases-sides : goal.decreases-sides
+decreases-sides l = 16 * (length l.tokens.now.tokens + 2 - l.at)
+
 abbrev pub decreases-binary : goal.decreases-binary
 decreases-binary l = 16 * (length l.tokens.now.tokens + 2 - l.at) + l.level + 3
 

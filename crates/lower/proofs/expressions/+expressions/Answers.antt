@@ -9,7 +9,7 @@ use Rattle.c_types.proofs.Arguments.{arguments_at}
 use Rattle.lower.specs.Lowers.{arguments_end}
 use Rattle.lower.specs.inside.Added.{Put, context_of}
 use Rattle.lower.proofs.ExprAdds.{arguments_code_more, arguments_registers_more, both_added}
-use Rattle.lower.proofs.ExprAdds.{either_added, constant_first}
+use Rattle.lower.proofs.ExprAdds.{either_added, left_added, other_added, constant_first}
 use Rattle.lower.proofs.expressions.+expressions.Goals as goal
 
 pub add_arguments-loop-argument-preserved : goal.add_arguments-loop-argument-preserved
@@ -53,6 +53,21 @@ add_either-returns t c =
     c.end-first.ensures.place c.in_ok-push.ensures c.in_ok-push-2.ensures c.in_ok-right.ensures
     c.end-second.ensures.place c.register-to.ensures c.in_ok-add_outcome.ensures
     c.set.ensures.code
+
+pub add_left_side-returns : goal.add_left_side-returns
+add_left_side-returns t c =
+    left_added (context_of c.args.source.now) c.args.variables.now (expr_of c.args.left.now) _ _ _ _
+    _ _ _ _
+    c.end-first.ensures.place c.in_ok-push.ensures c.in_ok-left.ensures c.end-place.ensures.place
+    c.set.ensures.code
+
+pub add_right_side-returns : goal.add_right_side-returns
+add_right_side-returns t c =
+    other_added (context_of c.args.source.now) c.args.variables.now (expr_of c.args.right.now) _ _ _
+    _ _ _ _ _ _ _ _ _
+    c.end-second.ensures.place c.in_ok-push.ensures c.in_ok-push-2.ensures c.in_ok-from.ensures
+    c.end-last.ensures.place c.register-to.ensures c.in_ok-push-3.ensures c.set.ensures.code
+    c.set-2.ensures.code
 
 pub add_constant_first-returns : goal.add_constant_first-returns
 add_constant_first-returns t c =
