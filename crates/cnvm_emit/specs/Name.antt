@@ -1,6 +1,6 @@
 -- The name of a transaction's function in C, after the prefix and a `_`. It is the transaction's
--- own. Where the file has a function on pools of that name, a `_` comes after it, and likewise after
--- each name that is such a one with `_` after it: so no other transaction has the name.
+-- own. Where the file has a function on pools of that name, a `_` comes after it, and likewise
+-- after each name that is such a one with `_` after it: so no other transaction has the name.
 use Rattle.std.specs.Prelude.{ℕ, List, ◌++◌, Bool, ◌&&◌, ◌||◌, ◌==◌, take, drop, length, codes}
 use Rattle.std.specs.Prelude.{if◌then◌else◌}
 use Rattle.std.specs.List.{list_all}

@@ -1,8 +1,6 @@
-//! Tables of code: the three-address code of texts, and small programs of it run on the machine. It
-//! stands on `lower` and `codegen` and holds nothing but tests.
+//! Tables of code: small programs of three-address code run on the machine. It stands on `codegen`
+//! and holds nothing but tests.
 #![tactic(auto)]
 
-#[cfg(test)]
-mod instructions;
 #[cfg(test)]
 mod machine_runs;

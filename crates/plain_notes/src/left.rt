@@ -188,6 +188,9 @@ fn by_mark(near: &Spelled<'_>, value: bool) -> Option<&'static str> {
     if is(here, "->") && is(near.before(1), "root") {
         return Some("the root is no pointer: write `root.f`");
     }
+    if is(here, ":") && is_one(near.before(2), &[";", "{", "}"]) {
+        return Some(LABEL_NOTE);
+    }
     if is_one(here, &OPERATORS) && near.within() == Within::Body {
         return Some(VALUE_NOTE);
     }
@@ -196,6 +199,8 @@ fn by_mark(near: &Spelled<'_>, value: bool) -> Option<&'static str> {
 
 const STEP_NOTE: &str =
     "`x++` and `x--` are statements of their own, with the mark after the target";
+
+const LABEL_NOTE: &str = "there are no labels: write a function with `return`, or a flag";
 
 const VALUE_NOTE: &str = "a value alone is no statement: assign it, return it, or leave it out";
 
@@ -275,10 +280,10 @@ fn by_bracket(near: &Spelled<'_>) -> Option<&'static str> {
     }
 }
 
-/// The binary operators.
-const OPERATORS: [&str; 18] = [
+/// The operators that stand behind a value.
+const OPERATORS: [&str; 19] = [
     "*", "/", "%", "+", "-", "<<", ">>", "<", "<=", ">", ">=", "==", "!=", "&", "^", "|", "&&",
-    "||",
+    "||", "?",
 ];
 
 /// The marks of assignments that update their target.

@@ -9,9 +9,6 @@ pub fn bad_byte(left: &[u8]) -> &'static str {
         return "the text ends here";
     };
     match *byte {
-        b'?' => "there is no `c ? a : b`: write `if (c) { x = a; } else { x = b; }`",
-        b':' =>
-            "there are no labels or `switch`: write `if`, `else if`, or a function with `return`",
         b'"' => "there are no strings: a program works on numbers and objects",
         b'\'' => "there are no characters: write the number, as 97 for 'a'",
         b'#' => hash_note(left),

@@ -105,20 +105,35 @@ const WORKERS: Shape = Shape {
     options: &[b"--workers", b"--slots", b"--log", b"--ticks"],
 };
 
+const SERVE: Shape = Shape {
+    name: "serve",
+    places: &["PROGRAM"],
+    options: &[b"--pool", b"--slots", b"--log", b"--ticks"],
+};
+
 const EMIT: Shape = Shape {
     name: "emit",
     places: &["PROGRAM"],
     options: &[b"--prefix", b"--header", b"--slots", b"--log", b"--ticks"],
 };
 
-const SHAPES: [Shape; 6] = [RUN, LIST, STORM, WHY, WORKERS, EMIT];
+const CODE: Shape = Shape {
+    name: "code",
+    places: &["PROGRAM"],
+    options: &[],
+};
+
+const SHAPES: [Shape; 8] = [RUN, LIST, STORM, WHY, WORKERS, SERVE, EMIT, CODE];
 
 /// The names of the commands.
-const COMMANDS: [&[u8]; 6] = [b"run", b"list", b"storm", b"why", b"workers", b"emit"];
+const COMMANDS: [&[u8]; 8] = [
+    b"run", b"list", b"storm", b"why", b"workers", b"serve", b"emit", b"code",
+];
 
 /// The commands and the options with their defaults.
-const HELP: [&str; 20] = [
+const HELP: [&str; 24] = [
     "cnvm run PROGRAM SCRIPT          runs the script's calls on a new pool",
+    "    SCRIPT                       a file, or - for standard input",
     "    --open IMAGE                 runs them on the pool of a saved image",
     "    --save IMAGE                 saves the pool at the end",
     "    --pool FILE                  keeps the pool in a file, without these two",
@@ -129,10 +144,13 @@ const HELP: [&str; 20] = [
     "cnvm why PROGRAM                 tells why each logged store is logged",
     "cnvm workers PROGRAM SCRIPT      runs the script's calls of several workers",
     "    --workers W                  how many, from 1 to 8; without it 2",
+    "cnvm serve PROGRAM               answers each line of standard input before the next",
+    "    --pool FILE                  keeps the pool in a file; without it in memory",
     "cnvm emit PROGRAM                prints the transactions as a C file",
     "    --prefix NAME                begins its names; without it the file's name, or pool",
     "    --header                     prints the header of that file",
-    "run, storm, workers and emit have these options too:",
+    "cnvm code PROGRAM                prints the intermediate code, with places and lines",
+    "run, storm, workers, serve and emit have these options too:",
     "    --slots N                    slots for objects, from 1 to 65535; without it 1024",
     "    --log N                      records of the log, from 1 to 4096; without it 256",
     "    --ticks N                    ticks of a call, from 1 to 1000000; without it 100000",
@@ -160,7 +178,9 @@ fn push_lines(message: &mut String, lines: &[&str]) -> Result<(), AllocError> {
 
 fn push_wrong(alloc: Global, message: &mut String, words: &[String]) -> Result<(), AllocError> {
     let Some((first, rest)) = words.split_first() else {
-        return message.push_str("a command is missing: run, list, storm, why, workers or emit");
+        return message.push_str(
+            "a command is missing: run, list, storm, why, workers, serve, emit or code",
+        );
     };
     match shape_of(&SHAPES, first.as_str()) {
         Some(shape) => {
@@ -188,7 +208,7 @@ fn push_no_command(alloc: Global, message: &mut String, word: &str) -> Result<()
     message.push_str(": there is no such command; ")?;
     match nearest(word.as_bytes(), &COMMANDS) {
         Some(near) => push_near(alloc, message, near),
-        None => message.push_str("there are run, list, storm, why, workers and emit"),
+        None => message.push_str("there are run, list, storm, why, workers, serve, emit and code"),
     }
 }
 
