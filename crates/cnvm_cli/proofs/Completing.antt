@@ -1,6 +1,8 @@
 -- A text or an image that is accepted isn't refused.
-use Rattle.std.proofs.Common.{◌≡◌, ℕ, ℤ, ◌<◌, List, Bool, true, false, Option, Some, None, is_some}
+use Rattle.std.proofs.Common.{◌≡◌, ℕ, suc, ◌-◌, ◌^◌, ℤ, ◌<◌, ◌≤◌, List, [], ◌∷◌, ◌++◌, Bool, true}
+use Rattle.std.proofs.Common.{false, Option, Some, None, is_some, Result, Ok, ap, length-append}
 use Rattle.std.proofs.Common.{Err, length, inl, inr, ⊎_elim, refl, sym, subst, ◌∙◌, arith}
+use Rattle.std.specs.List.{All}
 use Rattle.std.specs.Io.KnownBytes.{Appends, Keeps}
 use Rattle.nvm_base.specs.Parts.{AppendsPart}
 use Rattle.pmem.specs.Device.{Device}
@@ -15,10 +17,14 @@ use Rattle.cnvm_compile.specs.Compilation.{IsCompiled}
 use Rattle.cnvm_compile.specs.Told.{told_of}
 use Rattle.cnvm_compile.proofs.Once.{once}
 use Rattle.cnvm_script.specs.declared.command.Command.{Command}
+use Rattle.cnvm_script.specs.declared.read.TheConstants.{SCRIPT_BYTES}
 use Rattle.cnvm_script.specs.Commands.{script_meaning}
+use Rattle.cnvm_script.specs.Lines.{lines}
 use Rattle.workers_script.specs.declared.command.WorkersCommand.{WorkersCommand}
 use Rattle.workers_script.specs.WorkersGrammar.{workers_script_meaning}
 use Rattle.workers_run.specs.WorkersRan.{Unbegun, RunsNew, BreaksOffNew}
+use Rattle.cnvm_session.specs.declared.creating.StartFault.{StartFault}
+use Rattle.cnvm_session.specs.declared.creating.StartFault.TheVariants as start
 use Rattle.cnvm_session.specs.declared.program.Program.{Program}
 use Rattle.cnvm_session.specs.Pool.{wanted_of}
 use Rattle.cnvm_words.specs.declared.plan.Plan.{Plan}
@@ -42,13 +48,20 @@ use Rattle.cnvm_cli.specs.WorkersMeant.{make_fault}
 use Rattle.cnvm_cli.specs.World.{Sources, Outside}
 use Rattle.cnvm_cli.specs.Meant.{Start, Fresh, FromImage, start_if}
 use Rattle.cnvm_cli.specs.inside.Ends.{PoolEnds, JobEnds, RunEnds, StormEnds, PlanEnds}
+use Rattle.cnvm_cli.specs.CodeEnds.{CodeEnds}
 use Rattle.cnvm_cli.specs.Emitted.{EmitEnds}
 use Rattle.cnvm_cli.specs.Listed.{ListEnds, WrittenAs, listing_sizes}
 use Rattle.session_run.specs.Commands.{OpensAll, OpensPart, OpenedAs}
 use Rattle.session_run.specs.Commands.{CreatedAll, CreatedPart, RanAs}
 use Rattle.session_run.specs.Storms.{StormedAll, StormedPart, StormedStarved, StormedAs}
-use Rattle.cnvm_cli.specs.Complete.{HasProgram, HasScript, HasImage, IsRunServed, IsPlanServed}
-use Rattle.cnvm_cli.specs.Complete.{IsServed, IsRefusalStatus}
+use Rattle.session_serve.specs.declared.serving.Served.{Served}
+use Rattle.session_serve.specs.declared.serving.Served.TheVariants as served
+use Rattle.session_serve.specs.Begins.{CreatedServed}
+use Rattle.session_serve.proofs.Reading.{size_short}
+use Rattle.cnvm_cli.specs.Complete.{HasProgram, HasScript, HasLines, HasImage, IsRunServed}
+use Rattle.cnvm_cli.specs.Complete.{IsPlanServed, IsServed, IsRefusalStatus}
+use Rattle.cnvm_cli.specs.Serve.{StatusOf}
+use Rattle.cnvm_cli.specs.inside.ServeEnds.{MemoryEnds}
 use Rattle.cnvm_cli.proofs.Statuses.{status_kept}
 
 not_true : (let a : Bool = true in let b : Bool = false in a ≡ b) → ⊥
@@ -268,17 +281,26 @@ start_is asked false text image compiled is has = tt
 start_is asked true text None compiled is has = has refl
 start_is asked true text (Some bytes) compiled is has = has refl compiled is
 
-run_kept : (asked : Asked) (p s image : Option (List ℕ)) (opens saves : Bool) (result : Status)
-    (before after : Outside)
-    → IsRunServed asked (record { program = p; script = s; image = image }) opens
-    → RunEnds asked (record { program = p; script = s; image = image }) opens saves result before
-    after → IsRefusalStatus result → ⊥
-run_kept asked None s image opens saves result before after has ends refuses = has.0
-run_kept asked (Some text) s image opens saves result before after has ends refuses =
+run_kept : (asked : Asked) (p s image rest : Option (List ℕ)) (opens saves : Bool)
+    (result : Status) (before after : Outside)
+    → IsRunServed asked (record { program = p; script = s; image = image; rest = rest }) opens
+    → RunEnds asked (record { program = p; script = s; image = image; rest = rest }) opens saves
+    result before after → IsRefusalStatus result → ⊥
+run_kept asked None s image rest opens saves result before after has ends refuses = has.0
+run_kept asked (Some text) s image rest opens saves result before after has ends refuses =
     ⊎_elim (λ told. quiet_kept told.0 result before.out after.out
     (texts_quiet script_meaning asked (Some text) s has.0 has.1 told.0 told.1) told.2 refuses)
     (λ ran. job_kept saves (start_if opens image) ran.0.program ran.1 result before after
     (start_is asked opens text image ran.0 (let gives = ran.2 in gives.0) has.2) ran.3 refuses) ends
+
+abbrev IsShort : List ℕ → Type 0
+IsShort line = length line < SCRIPT_BYTES
+
+later_all : (xs ys : List (List ℕ)) → All IsShort (xs ++ ys) → All IsShort ys
+later_all [] ys all = all
+later_all (x ∷ xs) ys all =
+    later_all xs ys (λ (k : ℕ) (d : List ℕ) (less : k < length (xs ++ ys)).
+    all (suc k) d (omega (arith, less)))
 
 list_kept : (p : Option (List ℕ)) (result : Status) (w w' : Option (List ℕ))
     → HasProgram listing_sizes p → ListEnds p result w w' → IsRefusalStatus result → ⊥
@@ -299,6 +321,13 @@ emit_kept : (asked : Asked) (prefix : List ℕ) (header : Bool) (p : Option (Lis
     → EmitEnds asked prefix header p result w w' → IsRefusalStatus result → ⊥
 emit_kept asked prefix header p result w w' has ends refuses =
     ⊎_elim (λ told. quiet_kept told.0 result w w' (program_quiet asked p has told.0 told.1)
+    told.2 refuses)
+    (λ ran. written_kept _ result w w' ran.2 refuses) ends
+
+code_kept : (p : Option (List ℕ)) (result : Status) (w w' : Option (List ℕ))
+    → HasProgram listing_sizes p → CodeEnds p result w w' → IsRefusalStatus result → ⊥
+code_kept p result w w' has ends refuses =
+    ⊎_elim (λ told. quiet_kept told.0 result w w' (program_quiet listing_sizes p has told.0 told.1)
     told.2 refuses)
     (λ ran. written_kept _ result w w' ran.2 refuses) ends
 
@@ -329,14 +358,75 @@ workers_kept asked count p s result w w' d d' k k' program script ends refuses =
     (texts_quiet workers_script_meaning asked p s program script told.0 told.1) told.2 refuses)
     (λ ran. workers_ran_kept result ran.0.program count ran.1 w w' d d' k k' ran.4 refuses) ends
 
+-- the lines that were given are among all lines
+given_few : (given all rest : List (List ℕ)) (n : ℕ) → all ≡ given ++ rest → n ≤ length given
+    → length all < n → ⊥
+given_few given all rest n split many few =
+    omega (arith, length-append given rest, ap length split, many, few)
+
+-- no line is too long, and there aren't too many
+served_kept : (r : Result Served StartFault) (result : Status) (left left' : Option (List ℕ))
+    (program : Program) (w v w' : Option (List ℕ)) (d d' : Device) (k k' : ℕ) → HasLines left
+    → StatusOf r result v w' → CreatedServed r left left' program d w k d' v k'
+    → IsRefusalStatus result → ⊥
+served_kept (Ok served.Done) result left left' program w v w' d d' k k' has told ends refuses =
+    subst (λ (s : Status). IsRefusalStatus s) told.0 refuses
+served_kept (Ok served.ReadFault) result left left' program w v w' d d' k k' has told ends refuses =
+    subst (λ (s : Status). IsRefusalStatus s) told.0 refuses
+served_kept (Ok served.LongLine) result None left' program w v w' d d' k k' has told ends refuses =
+    has
+served_kept (Ok served.LongLine) result (Some text) left' program w v w' d d' k k' has told
+    (b, made, inl first) refuses = first.0
+served_kept (Ok served.LongLine) result (Some text) left' program w v w' d d' k k' has told
+    (b, made, inr h) refuses =
+    let given = h.2.0 in
+    let rest = h.2.1 in
+    let short = size_short rest.0 SCRIPT_BYTES
+    (later_all given (lines rest.0) (subst (All IsShort) rest.1 has.0)) in
+    absurd (omega (arith, short, rest.2))
+served_kept (Ok served.ManyLines) result None left' program w v w' d d' k k' has told ends refuses =
+    has
+served_kept (Ok served.ManyLines) result (Some text) left' program w v w' d d' k k' has told
+    (b, made, inl first) refuses = first.0
+served_kept (Ok served.ManyLines) result (Some text) None program w v w' d d' k k' has told
+    (b, made, inr h) refuses = h.2.3
+served_kept (Ok served.ManyLines) result (Some text) (Some more) program w v w' d d' k k' has told
+    (b, made, inr h) refuses =
+    given_few h.2.0 (lines text) (lines (h.2.1 ++ more)) (2 ^ 64 - 1) h.2.3 h.2.2 has.1
+served_kept (Ok served.NoMemory) result left left' program w v w' d d' k k' has told ends refuses =
+    subst (λ (s : Status). IsRefusalStatus s) told.0 refuses
+served_kept (Ok served.WriteFault) result left left' program w v w' d d' k k' has told ends
+    refuses = subst (λ (s : Status). IsRefusalStatus s) told.0 refuses
+served_kept (Ok served.GivenUp) result left left' program w v w' d d' k k' has told ends refuses =
+    subst (λ (s : Status). IsRefusalStatus s) told.0 refuses
+served_kept (Err start.Failed) result left left' program w v w' d d' k k' has told ends refuses =
+    subst (λ (s : Status). IsRefusalStatus s) told.0 refuses
+served_kept (Err start.NoMemory) result left left' program w v w' d d' k k' has told ends refuses =
+    subst (λ (s : Status). IsRefusalStatus s) told.0 refuses
+
+serve_kept : (asked : Asked) (told : Sources) (result : Status) (w w' : Option (List ℕ))
+    (d d' : Device) (k k' : ℕ) → HasProgram asked told.program → HasLines told.script
+    → MemoryEnds asked told result w w' d d' k k' → IsRefusalStatus result → ⊥
+serve_kept asked told result w w' d d' k k' program has (inl (why, refuses, reported, device, steps)) is =
+    quiet_kept why result w w' (program_quiet asked told.program program why refuses)
+    reported is
+serve_kept asked told result w w' d d' k k' program has
+    (inr (compiled, gives, r, v, status, never, ends)) is =
+    served_kept r result told.script told.rest compiled.program w v w' d d' k k' has status ends is
+
 plan_kept : (asked : Plan) (told : Sources) (result : Status) (before after : Outside)
     → IsPlanServed asked told
     → PlanEnds asked told result before after → IsRefusalStatus result → ⊥
 plan_kept (plan.Run p s slots records ticks from save) told result before after has ends refuses =
     run_kept (asked_by slots records ticks) told.program told.script
-    told.image (is_some from) (is_some save)
+    told.image told.rest (is_some from) (is_some save)
     result before after has ends refuses
 plan_kept (plan.RunPool p s slots records ticks pool) told result before after has ends refuses =
+    has
+plan_kept (plan.Serve p slots records ticks) told result before after has ends refuses =
+    serve_kept (asked_by slots records ticks) told result before.out after.out before.dev after.dev
+    before.steps after.steps has.0 has.1 ends.0 refuses
+plan_kept (plan.ServePool p slots records ticks pool) told result before after has ends refuses =
     has
 plan_kept (plan.List p) told result before after has ends refuses =
     list_kept told.program result before.out after.out has ends.0 refuses
@@ -356,6 +446,8 @@ plan_kept (plan.Emit p prefix header slots records ticks) told result before aft
     ends refuses =
     emit_kept (asked_by slots records ticks) prefix header told.program result before.out after.out
     has ends.0 refuses
+plan_kept (plan.Code p) told result before after has ends refuses =
+    code_kept told.program result before.out after.out has ends.0 refuses
 
 -- if everything is accepted, the status is no refusal
 pub plan_kept_as : (words : Option Plan) (asked : Plan) (told : Sources) (result : Status)

@@ -1,7 +1,7 @@
 -- A device that shows that no fault is armed never fails, and no call on it ends with
 -- `DeviceFault`, but for one that runs on a pool's file.
 use Rattle.std.proofs.Common.{◌≡◌, ℕ, ◌*◌, List, [], ◌∷◌, Bool, true, false, Option, Some, None}
-use Rattle.std.proofs.Common.{is_some, ℤ, inl, inr, refl, sym, ap, subst}
+use Rattle.std.proofs.Common.{is_some, ℤ, inl, inr, refl, sym, ap, subst, Result, Ok, Err}
 use Rattle.cache_model.specs.Event.{CacheEvent}
 use Rattle.pmem.specs.Device.{Device, MayFail, armed_less, armed_as, spent, blanked}
 use Rattle.pmem.specs.Played.{PlaysPart}
@@ -12,6 +12,7 @@ use Rattle.pool_layout.specs.declared.wanted.ImageFault.TheVariants as image
 use Rattle.pool_workers.specs.Making.{creations, Unmade}
 use Rattle.pool_workers.specs.declared.answer.MakeFault.TheVariants as make
 use Rattle.cnvm_script.specs.declared.command.Command.{Command}
+use Rattle.cnvm_session.specs.declared.creating.StartFault.{StartFault}
 use Rattle.cnvm_session.specs.declared.creating.StartFault.TheVariants as start
 use Rattle.cnvm_session.specs.declared.program.Program.{Program}
 use Rattle.cnvm_session.specs.Unmade.{IsUnmade}
@@ -23,6 +24,7 @@ use Rattle.cnvm_cli.specs.declared.refused.Refused.{Refused}
 use Rattle.cnvm_cli.specs.declared.refused.Refused.TheVariants as refused
 use Rattle.session_run.specs.declared.status.Status.{Status}
 use Rattle.session_run.specs.declared.status.Status.TheVariants as status
+use Rattle.cnvm_cli.specs.CodeEnds.{CodeEnds}
 use Rattle.cnvm_cli.specs.Emitted.{EmitEnds}
 use Rattle.cnvm_cli.specs.Listed.{ListEnds}
 use Rattle.cnvm_cli.specs.Meant.{Start, Fresh, FromImage, start_if, StartMeant, JobMeant, RunMeant}
@@ -32,6 +34,9 @@ use Rattle.cnvm_cli.specs.PoolMeant.{HasPool}
 use Rattle.cnvm_cli.specs.Run.{RefusedAs}
 use Rattle.session_run.specs.Told.{TellsAs}
 use Rattle.session_run.specs.Saved.{SavedAs}
+use Rattle.cnvm_cli.specs.Serve.{StatusOf, IsNeverGivenUp, MemoryMeantTo, ServeMeant}
+use Rattle.session_serve.specs.declared.serving.Served.{Served}
+use Rattle.session_serve.specs.declared.serving.Served.TheVariants as served
 use Rattle.cnvm_cli.specs.StormMeant.{StormMeant}
 use Rattle.cnvm_cli.specs.Verdict.{Grammar, ProgramRefuses, ScriptRefuses, RefuseIn, asked_by}
 use Rattle.cnvm_cli.specs.WhyEnds.{WhyEnds}
@@ -173,6 +178,10 @@ emit_never asked prefix header p w w' (inl refuses) =
     program_never p refuses.0 w w' refuses.1 refuses.2
 emit_never asked prefix header p w w' (inr written) = written.2
 
+code_never : (p w w' : Option (List ℕ)) → CodeEnds p status.DeviceFault w w' → ⊥
+code_never p w w' (inl refuses) = program_never p refuses.0 w w' refuses.1 refuses.2
+code_never p w w' (inr written) = written.2
+
 storm_never : (asked : Asked) (first count : ℕ) (p w w' : Option (List ℕ)) (d d' : Device)
     (k k' : ℕ) → IsFaultless d
     → StormMeant asked first count p status.DeviceFault w w' d d' k k' → ⊥
@@ -189,12 +198,45 @@ workers_never asked count p s w w' d d' k k' none (inl refuses) =
 workers_never asked count p s w w' d d' k k' none (inr meant) =
     let unbegun = meant.4 in never_made _ _ _ d d' none unbegun.2
 
+served_never : (r : Result Served StartFault) (left rest : Option (List ℕ)) (program : Program)
+    (w v w' : Option (List ℕ)) (d d' : Device) (k k' : ℕ) → IsFaultless d
+    → StatusOf r status.DeviceFault v w' → IsNeverGivenUp r
+    → MemoryMeantTo r left rest program w v d d' k k' → ⊥
+served_never (Ok served.Done) left rest program w v w' d d' k k' none told never ends =
+    let e = told.0 in absurd cc
+served_never (Ok served.ReadFault) left rest program w v w' d d' k k' none told never ends =
+    let e = told.0 in absurd cc
+served_never (Ok served.LongLine) left rest program w v w' d d' k k' none told never ends =
+    device_refused refused.LongScript v w' told
+served_never (Ok served.ManyLines) left rest program w v w' d d' k k' none told never ends =
+    device_refused refused.LongScript v w' told
+served_never (Ok served.NoMemory) left rest program w v w' d d' k k' none told never ends =
+    let e = told.0 in absurd cc
+served_never (Ok served.WriteFault) left rest program w v w' d d' k k' none told never ends =
+    let e = told.0 in absurd cc
+served_never (Ok served.GivenUp) left rest program w v w' d d' k k' none told never ends = never
+served_never (Err start.Failed) left rest program w v w' d d' k k' none told never ends =
+    never_unmade _ _ d d' none ends.2
+served_never (Err start.NoMemory) left rest program w v w' d d' k k' none told never ends =
+    let e = told.0 in absurd cc
+
+serve_never : (asked : Asked) (told : Sources) (before after : Outside) → IsFaultless before.dev
+    → ServeMeant asked told status.DeviceFault before after → ⊥
+serve_never asked told before after none (inl (why, refuses, line, device, steps)) =
+    program_never told.program why before.out after.out refuses line
+serve_never asked told before after none (inr (compiled, is, r, w, status, never, ends)) =
+    served_never r told.script told.rest compiled.program before.out w after.out before.dev
+    after.dev before.steps after.steps none status never ends
+
 plan_never : (asked : Plan) (told : Sources) (before after : Outside) → IsFaultless before.dev
     → PlanMeant asked told status.DeviceFault before after → HasPool (Some asked)
 plan_never (plan.Run p s slots records ticks from save) told before after none meant =
     absurd (run_never (asked_by slots records ticks) told (is_some from) (is_some save) before after
     none meant)
 plan_never (plan.RunPool p s slots records ticks pool) told before after none meant = tt
+plan_never (plan.Serve p slots records ticks) told before after none meant =
+    absurd (serve_never (asked_by slots records ticks) told before after none meant.0)
+plan_never (plan.ServePool p slots records ticks pool) told before after none meant = tt
 plan_never (plan.List p) told before after none meant =
     absurd (list_never told.program before.out after.out meant.0)
 plan_never (plan.Storm p first count slots records ticks) told before after none meant =
@@ -208,6 +250,8 @@ plan_never (plan.Workers p s workers slots records ticks) told before after none
 plan_never (plan.Emit p prefix header slots records ticks) told before after none meant =
     let asked = asked_by slots records ticks in
     absurd (emit_never asked prefix header told.program before.out after.out meant.0)
+plan_never (plan.Code p) told before after none meant =
+    absurd (code_never told.program before.out after.out meant.0)
 
 pub call_never : (words : Option Plan) (told : Sources) (before after : Outside)
     → IsFaultless before.dev → CallMeant words told status.DeviceFault before after → HasPool words

@@ -2,8 +2,11 @@ pub mod Completing
 pub mod Digits
 pub mod Faultless
 pub mod Meaning
+pub mod Moments
 pub mod PoolMeaning
+pub mod ServeMeaning
 pub mod Sources
+pub mod Standing
 pub mod Statuses
 pub mod StormMeaning
 pub mod Verdicts

@@ -9,18 +9,13 @@ use Rattle.pmem.specs.Device.{Device}
 use Rattle.pool_layout.specs.Image.{image_words}
 use Rattle.pool_layout.specs.Opened.{IsOpened}
 use Rattle.cnvm_script.specs.declared.command.Command.{Command}
-use Rattle.cnvm_session.specs.declared.answer.Answer.{Answer}
 use Rattle.cnvm_session.specs.AnswerText.{answer_text}
-use Rattle.cnvm_session.specs.declared.mode.Mode.{Mode}
 use Rattle.cnvm_session.specs.declared.program.Program.{Program}
 use Rattle.cnvm_session.specs.Pool.{wanted_of}
 use Rattle.session_law.specs.Agrees.{Agrees}
-use Rattle.session_law.specs.State.{SourceState}
 use Rattle.session_law.specs.Holds.{Holds}
 use Rattle.session_law.specs.Words.{AreWords}
-use Rattle.session_law.specs.Opened as session
-use Rattle.session_law.specs.History.{recovered_by, history_after}
-use Rattle.session_law.specs.Ran.{found_by, Moment, fresh_moment}
+use Rattle.session_law.specs.Ran.{Moment, fresh_moment}
 use Rattle.session_law.specs.Law.{IsWordCommand, super_words}
 use Rattle.session_law.proofs.Chains.{steps_on, open_step}
 use Rattle.session_law.proofs.Commands.{each_command}
@@ -48,6 +43,8 @@ use Rattle.cnvm_cli.specs.Meant.{OpenedMeantAs, StartMeant, JobMeant, RunMeant, 
 use Rattle.cnvm_cli.specs.Meant.{CallMeant}
 use Rattle.cnvm_cli.specs.inside.Ends.{PoolEnds, JobEnds, RunEnds, PlanEnds}
 use Rattle.session_run.specs.Commands as cli
+use Rattle.cnvm_cli.proofs.Moments.{next_to, opened_to}
+use Rattle.cnvm_cli.proofs.ServeMeaning.{memory_served}
 use Rattle.cnvm_cli.proofs.Sources.{known_bytes}
 use Rattle.cnvm_cli.proofs.Statuses.{status_map}
 use Rattle.cnvm_cli.proofs.StormMeaning.{storm_meant}
@@ -63,17 +60,6 @@ none_written w w' is = subst (λ (v : Option (List ℕ)). Appends w v []) (sym i
 
 module _ (program : Program) (super : Words)
     (agrees : Agrees program) where
-  -- the moment after a command
-  abbrev next_to : (c : Command) (x : Moment) (a : Answer) (n : Mode) (b : Device) (k1 : ℕ) →
-      SourceState → Moment
-  next_to c x a n b k1 t = record {
-    mode = n;
-    device = b;
-    steps = k1;
-    state = t;
-    history = history_after program x.state (found_by c x.device) c a x.history;
-  }
-
   pub run_all : (commands : List Command) → AllByRecursion IsWordCommand commands →
       (x : Moment) (d' : Device) (w w' : Option (List ℕ)) (k' : ℕ) →
       Holds program super x.mode x.device x.state
@@ -91,7 +77,7 @@ module _ (program : Program) (super : Words)
   run_all (c ∷ commands) words x d' w w' k' holds r =
       let one = steps_on each_command program super agrees c x r.0 r.1 r.2 r.4 words.0
       holds r.5 in
-      let y : Moment = next_to c x r.0 r.1 r.2 r.4 one.0 in
+      let y : Moment = next_to program c x r.0 r.1 r.2 r.4 one.0 in
       let rest = run_all commands words.1 y d' r.3 w' k' one.1.holds r.7 in
       record {
         answers = r.0 ∷ rest.answers;
@@ -122,7 +108,7 @@ module _ (program : Program) (super : Words)
         told = w;
         written = none_written w w refl;
         answer = r.0;
-        last = next_to c x r.0 r.1 d' k' one.0;
+        last = next_to program c x r.0 r.1 d' k' one.0;
         step = one.1;
         device = refl;
         steps = refl;
@@ -131,7 +117,7 @@ module _ (program : Program) (super : Words)
   run_part (c ∷ commands) words x d' w w' k' holds (inr r) =
       let one = steps_on each_command program super agrees c x r.0 r.1 r.2 r.4 words.0
       holds r.5 in
-      let y : Moment = next_to c x r.0 r.1 r.2 r.4 one.0 in
+      let y : Moment = next_to program c x r.0 r.1 r.2 r.4 one.0 in
       let rest = run_part commands words.1 y d' r.3 w' k' one.1.holds r.7 in
       record {
         first = c ∷ rest.first;
@@ -185,16 +171,6 @@ module _ (program : Program) (agrees : Agrees program)
       status_map (λ why. Uncreated program why w w' d d' k k') (created_part w w' d d' k k')
       (created_all w w' d d' k k') (created_part w w' d d' k k') result r
 
-  -- the moment after the pool of an image was opened
-  abbrev pub opened_to : List ℤ → Answer → Mode → Device → ℕ → SourceState → Moment
-  opened_to list a m b k1 t = record {
-    mode = m;
-    device = b;
-    steps = k1;
-    state = t;
-    history = recovered_by (session.opened program (image_words list)) (image_words list) a;
-  }
-
   opens_meant : (words : List ℤ) → AreWords words → IsOpened (wanted_of program) words →
       (w w' : Option (List ℕ)) (d d' : Device) (k k' : ℕ) →
       OpensAll program commands words w w' d d' k k' →
@@ -202,7 +178,7 @@ module _ (program : Program) (agrees : Agrees program)
   opens_meant list are opened w w' d d' k k' r =
       let first = open_step opened_answers program list r.1 d r.2 r.0 k r.4 agrees are
       opened r.5 in
-      let x : Moment = opened_to list r.0 r.1 r.2 r.4 first.0 in (
+      let x : Moment = opened_to program list r.0 r.1 r.2 r.4 first.0 in (
         r.0,
         x,
         r.3,
@@ -219,11 +195,11 @@ module _ (program : Program) (agrees : Agrees program)
   part_meant list are opened w w' d d' k k' (inl r) =
       let first = open_step opened_answers program list r.1 d d' r.0 k k' agrees are
       opened r.2 in
-      inl (r.0, opened_to list r.0 r.1 d' k' first.0, first.1, refl, refl, r.3)
+      inl (r.0, opened_to program list r.0 r.1 d' k' first.0, first.1, refl, refl, r.3)
   part_meant list are opened w w' d d' k k' (inr r) =
       let first = open_step opened_answers program list r.1 d r.2 r.0 k r.4 agrees are
       opened r.5 in
-      let x : Moment = opened_to list r.0 r.1 r.2 r.4 first.0 in
+      let x : Moment = opened_to program list r.0 r.1 r.2 r.4 first.0 in
       inr (
         r.0,
         x,
@@ -299,6 +275,9 @@ plan_meant (plan.Run p s slots records ticks from save) told result before after
     run_meant (asked_by slots records ticks) told (is_some from) (is_some save) result before
     after ends
 plan_meant (plan.RunPool p s slots records ticks pool) told result before after ends = ends
+plan_meant (plan.Serve p slots records ticks) told result before after ends =
+    (memory_served (asked_by slots records ticks) told result before after ends.0, ends.1)
+plan_meant (plan.ServePool p slots records ticks pool) told result before after ends = ends
 plan_meant (plan.List p) told result before after ends = ends
 plan_meant (plan.Storm p start count slots records ticks) told result before after ends = (
   storm_meant (asked_by slots records ticks) start count told.program result before.out after.out
@@ -312,6 +291,7 @@ plan_meant (plan.Workers p s workers slots records ticks) told result before aft
   ends.1,
 )
 plan_meant (plan.Emit p prefix header slots records ticks) told result before after ends = ends
+plan_meant (plan.Code p) told result before after ends = ends
 
 -- words that make a plan
 pub plan_meant_as : (words : Option Plan) (asked : Plan) (told : Sources) (result : Status)
@@ -330,6 +310,10 @@ memory_meant (Some (plan.Run p s slots records ticks from save)) told before aft
     inl (refused.NoMemory, inl tt, (refl, keeps), same)
 memory_meant (Some (plan.RunPool p s slots records ticks pool)) told before after keeps same =
     (same.0, same.1)
+memory_meant (Some (plan.Serve p slots records ticks)) told before after keeps same =
+    (inl (refused.NoMemory, tt, (refl, keeps), same.1, same.2), same.0)
+memory_meant (Some (plan.ServePool p slots records ticks pool)) told before after keeps same =
+    (same.0, same.1)
 memory_meant (Some (plan.List p)) told before after keeps same =
     (inl (refused.NoMemory, tt, (refl, keeps)), same)
 memory_meant (Some (plan.Storm p start count slots records ticks)) told before after keeps same =
@@ -339,4 +323,6 @@ memory_meant (Some (plan.Why p)) told before after keeps same =
 memory_meant (Some (plan.Workers p s workers slots records ticks)) told before after keeps same =
     (inl (refused.NoMemory, inl tt, (refl, keeps), same.1, same.2), same.0)
 memory_meant (Some (plan.Emit p prefix header slots records ticks)) told before after keeps same =
+    (inl (refused.NoMemory, tt, (refl, keeps)), same)
+memory_meant (Some (plan.Code p)) told before after keeps same =
     (inl (refused.NoMemory, tt, (refl, keeps)), same)

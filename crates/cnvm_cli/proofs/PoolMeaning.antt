@@ -34,9 +34,10 @@ use Rattle.cnvm_compile.specs.Compilation.{IsCompiled}
 use Rattle.cnvm_cli.specs.Opened.{ImageGives}
 use Rattle.cnvm_cli.specs.Run.{RefusedAs}
 use Rattle.pool_layout.specs.declared.wanted.ImageFault.TheVariants.{Version}
-use Rattle.cnvm_cli.specs.PoolMeant.{PoolSide, RanSome, HeldMeant, NewMeant, MakesPool, TakesFile}
-use Rattle.cnvm_cli.specs.PoolMeant.{RunsFile, FileMeant, IsUnrun, IsKept, PlanOnFile, CallOnFile}
-use Rattle.cnvm_cli.specs.PoolMeant.{TellsFile}
+use Rattle.cnvm_cli.specs.PoolMeant.{RanSome, HeldMeant, NewMeant, FileMeant, PlanOnFile}
+use Rattle.cnvm_cli.specs.PoolMeant.{CallOnFile}
+use Rattle.cnvm_cli.specs.PoolSide.{PoolSide, MakesPool, TakesFile, RunsFile, IsUnrun, IsKept}
+use Rattle.cnvm_cli.specs.PoolSide.{TellsFile}
 use Rattle.cnvm_cli.specs.declared.refused.Refused.{Refused}
 use Rattle.cnvm_cli.specs.declared.refused.Refused.TheVariants as refused
 use Rattle.cnvm_words.specs.declared.plan.Plan.{Plan}
@@ -44,7 +45,9 @@ use Rattle.cnvm_words.specs.declared.plan.Plan.TheVariants as plan
 use Rattle.cnvm_cli.specs.Verdict.{HasCommands, TextsGive, asked_by}
 use Rattle.cnvm_cli.specs.World.{Sources}
 use Rattle.cnvm_cli.specs.inside.PoolEnds.{RunsOn, RunsNew, FileEnds, PlanOnFileEnds}
-use Rattle.cnvm_cli.proofs.Meaning.{run_all, run_part, opened_meant, opened_to}
+use Rattle.cnvm_cli.proofs.Meaning.{run_all, run_part, opened_meant}
+use Rattle.cnvm_cli.proofs.Moments.{opened_to}
+use Rattle.cnvm_cli.proofs.ServeMeaning.{file_served}
 use Rattle.cnvm_cli.proofs.Sources.{known_bytes}
 
 -- the first ones of words are words
@@ -98,7 +101,7 @@ module _ (program : Program) (agrees : Agrees program) (commands : List Command)
       let o = r.2 in
       let first = open_step opened_answers program list o.1 before.held.device o.2 o.0 before.steps
       o.4 agrees are opened o.5 in
-      let x : Moment = opened_to program agrees commands words list o.0 o.1 o.2 o.4 first.0 in (
+      let x : Moment = opened_to program list o.0 o.1 o.2 o.4 first.0 in (
         kept,
         inr (
           r.0,
@@ -203,11 +206,15 @@ plan_on_file : (asked : Plan) (told : Sources) (result : Status) (before after :
 plan_on_file (plan.Run p s slots records ticks from save) told result before after ends = ends
 plan_on_file (plan.RunPool p s slots records ticks pool) told result before after ends =
     file_meant (asked_by slots records ticks) told result before after ends
+plan_on_file (plan.Serve p slots records ticks) told result before after ends = ends
+plan_on_file (plan.ServePool p slots records ticks pool) told result before after ends =
+    file_served (asked_by slots records ticks) told result before after ends
 plan_on_file (plan.List p) told result before after ends = ends
 plan_on_file (plan.Storm p start count slots records ticks) told result before after ends = ends
 plan_on_file (plan.Why p) told result before after ends = ends
 plan_on_file (plan.Workers p s workers slots records ticks) told result before after ends = ends
 plan_on_file (plan.Emit p prefix header slots records ticks) told result before after ends = ends
+plan_on_file (plan.Code p) told result before after ends = ends
 
 pub plan_on_file_as : (words : Option Plan) (asked : Plan) (told : Sources) (result : Status)
     (before after : PoolSide) → words ≡ Some asked
@@ -232,6 +239,10 @@ memory_of_plan (plan.Run p s slots records ticks from save) told before after ke
     (same.held, same.found)
 memory_of_plan (plan.RunPool p s slots records ticks pool) told before after keeps same =
     inl (refused.NoMemory, inl tt, (refl, keeps), same)
+memory_of_plan (plan.Serve p slots records ticks) told before after keeps same =
+    (same.held, same.found)
+memory_of_plan (plan.ServePool p slots records ticks pool) told before after keeps same =
+    inl (refused.NoMemory, tt, (refl, keeps), same)
 memory_of_plan (plan.List p) told before after keeps same = (same.held, same.found)
 memory_of_plan (plan.Storm p start count slots records ticks) told before after keeps same =
     (same.held, same.found)
@@ -240,6 +251,7 @@ memory_of_plan (plan.Workers p s workers slots records ticks) told before after 
     (same.held, same.found)
 memory_of_plan (plan.Emit p prefix header slots records ticks) told before after keeps same =
     (same.held, same.found)
+memory_of_plan (plan.Code p) told before after keeps same = (same.held, same.found)
 
 -- a call that finds no memory to read its words
 pub memory_on_file : (words : Option Plan) (told : Sources) (before after : PoolSide)

@@ -1,8 +1,12 @@
 -- Completeness: if the texts and the image are accepted, no status says that one of them is
 -- refused.
-use Rattle.std.specs.Prelude.{ℕ, List, Bool, true, Option, Some, None, is_some, ◌≡◌, ⊤}
+use Rattle.std.specs.Prelude.{ℕ, ◌-◌, ◌^◌, ◌<◌, List, length, Bool, true, Option, Some, None}
+use Rattle.std.specs.Prelude.{is_some, ◌≡◌, ⊤}
+use Rattle.std.specs.List.{All}
 use Rattle.pool_layout.specs.Fault.{Accepts}
+use Rattle.cnvm_script.specs.declared.read.TheConstants.{SCRIPT_BYTES}
 use Rattle.cnvm_script.specs.Commands.{script_meaning}
+use Rattle.cnvm_script.specs.Lines.{lines}
 use Rattle.workers_script.specs.WorkersGrammar.{workers_script_meaning}
 use Rattle.cnvm_compile.specs.declared.compiling.Compiled.{Compiled}
 use Rattle.cnvm_compile.specs.Compilation.{IsCompiled}
@@ -27,6 +31,13 @@ abbrev pub HasScript : {C : Type 0} → Grammar C → Option (List ℕ) → Type
 HasScript means None = ⊥
 HasScript {C} means (Some text) = (commands : List C) × SpellsIn means commands text
 
+-- the source shows lines, each shorter than a script may be, and not more than can be counted
+abbrev pub HasLines : Option (List ℕ) → Type 0
+HasLines None = ⊥
+HasLines (Some text) =
+    All (λ (line : List ℕ). length line < SCRIPT_BYTES) (lines text)
+    × (length (lines text) < 2 ^ 64 - 1)
+
 -- the source shows an image that each program of this text accepts
 abbrev pub HasImage : Asked → (program image : Option (List ℕ)) → Type 0
 HasImage asked None image = ⊥
@@ -46,6 +57,9 @@ abbrev pub IsPlanServed : Plan → Sources → Type 0
 IsPlanServed (plan.Run p s slots records ticks from save) told =
     IsRunServed (asked_by slots records ticks) told (is_some from)
 IsPlanServed (plan.RunPool p s slots records ticks pool) told = ⊥
+IsPlanServed (plan.Serve p slots records ticks) told =
+    HasProgram (asked_by slots records ticks) told.program × HasLines told.script
+IsPlanServed (plan.ServePool p slots records ticks pool) told = ⊥
 IsPlanServed (plan.List p) told = HasProgram listing_sizes told.program
 IsPlanServed (plan.Storm p start count slots records ticks) told =
     HasProgram (asked_by slots records ticks) told.program
@@ -55,6 +69,7 @@ IsPlanServed (plan.Workers p s workers slots records ticks) told =
     × HasScript workers_script_meaning told.script
 IsPlanServed (plan.Emit p prefix header slots records ticks) told =
     HasProgram (asked_by slots records ticks) told.program
+IsPlanServed (plan.Code p) told = HasProgram listing_sizes told.program
 
 -- the words ask for something, and all that they ask for is served
 abbrev pub IsServed : Option Plan → Sources → Type 0

@@ -1,12 +1,15 @@
+pub mod CodeEnds
 pub mod Complete
 pub mod Emitted
 pub mod Listed
 pub mod Meant
 pub mod Opened
 pub mod PoolMeant
+pub mod PoolSide
 pub mod Read
 pub mod RefusalText
 pub mod Run
+pub mod Serve
 pub mod StormMeant
 pub mod Verdict
 pub mod WhyEnds

@@ -26,12 +26,14 @@ use Rattle.cnvm_cli.specs.declared.refused.Refused.{Refused}
 use Rattle.cnvm_cli.specs.declared.refused.Refused.TheVariants as refused
 use Rattle.session_run.specs.declared.status.Status.{Status}
 use Rattle.session_run.specs.AsStatus.{AsStatus}
+use Rattle.cnvm_cli.specs.CodeEnds.{CodeEnds}
 use Rattle.cnvm_cli.specs.Emitted.{EmitEnds}
 use Rattle.cnvm_cli.specs.Listed.{ListEnds}
 use Rattle.cnvm_cli.specs.Opened.{ImageRefuses, ImageGives}
 use Rattle.cnvm_cli.specs.Run.{RefusedAs}
 use Rattle.session_run.specs.Made.{Created, Uncreated, Unopened}
 use Rattle.session_run.specs.Saved.{SavedAs}
+use Rattle.cnvm_cli.specs.Serve.{ServeMeant}
 use Rattle.cnvm_cli.specs.StormMeant.{StormMeant}
 use Rattle.cnvm_cli.specs.Verdict.{asked_by, TextsGive, TextsRefuse}
 use Rattle.cnvm_cli.specs.WhyEnds.{WhyEnds}
@@ -175,6 +177,11 @@ PlanMeant (plan.Run p s slots records ticks from save) told result before after 
     RunMeant (asked_by slots records ticks) told (is_some from) (is_some save) result before after
 PlanMeant (plan.RunPool p s slots records ticks pool) told result before after =
     Keeps before.image after.image × (after.dev ≡ before.dev)
+PlanMeant (plan.Serve p slots records ticks) told result before after =
+    ServeMeant (asked_by slots records ticks) told result before after
+    × Keeps before.image after.image
+PlanMeant (plan.ServePool p slots records ticks pool) told result before after =
+    Keeps before.image after.image × (after.dev ≡ before.dev)
 PlanMeant (plan.List p) told result before after =
     ListEnds told.program result before.out after.out × IsUntouched before after
 PlanMeant (plan.Storm p start count slots records ticks) told result before after =
@@ -190,6 +197,8 @@ PlanMeant (plan.Workers p s workers slots records ticks) told result before afte
 PlanMeant (plan.Emit p prefix header slots records ticks) told result before after =
     EmitEnds (asked_by slots records ticks) prefix header told.program result before.out after.out
     × IsUntouched before after
+PlanMeant (plan.Code p) told result before after =
+    CodeEnds told.program result before.out after.out × IsUntouched before after
 
 -- What a call means. Words that ask for nothing are a wrong use: this is reported, and nothing is
 -- run or saved.

@@ -4,11 +4,14 @@ use Rattle.std.specs.Io.KnownBytes.{IsAtEnd}
 use Rattle.cnvm_words.specs.declared.plan.Plan.{Plan}
 use Rattle.cnvm_words.specs.declared.plan.Plan.TheVariants as plan
 
--- the program, and where a script is run, the script too
+-- the program, and where lines are answered, the script too
 abbrev pub IsRead : Plan → (program script : Option (List ℕ)) → Type 0
 IsRead (plan.Run p s slots records ticks from save) program script =
     IsAtEnd program × IsAtEnd script
 IsRead (plan.RunPool p s slots records ticks pool) program script =
+    IsAtEnd program × IsAtEnd script
+IsRead (plan.Serve p slots records ticks) program script = IsAtEnd program × IsAtEnd script
+IsRead (plan.ServePool p slots records ticks pool) program script =
     IsAtEnd program × IsAtEnd script
 IsRead (plan.List p) program script = IsAtEnd program
 IsRead (plan.Storm p start count slots records ticks) program script = IsAtEnd program
@@ -16,3 +19,4 @@ IsRead (plan.Why p) program script = IsAtEnd program
 IsRead (plan.Workers p s workers slots records ticks) program script =
     IsAtEnd program × IsAtEnd script
 IsRead (plan.Emit p prefix header slots records ticks) program script = IsAtEnd program
+IsRead (plan.Code p) program script = IsAtEnd program

@@ -51,7 +51,8 @@ fault_line image.NoMemory = []
 abbrev pub refusal_line : Refused → List ℕ
 refusal_line refused.Usage =
     codes "usage: cnvm run PROGRAM SCRIPT | list PROGRAM | storm PROGRAM START COUNT"
-    ++ codes " | why PROGRAM | workers PROGRAM SCRIPT | emit PROGRAM\n"
+    ++ codes " | why PROGRAM | workers PROGRAM SCRIPT | serve PROGRAM | emit PROGRAM"
+    ++ codes " | code PROGRAM\n"
 refusal_line refused.LongProgram = codes "program too long\n"
 refusal_line (refused.Program line complaint) = complaint_line line complaint
 refusal_line refused.LongScript = codes "script too long\n"

@@ -11,11 +11,12 @@ use Rattle.cnvm_cli.specs.declared.world.World.{World}
 abbrev pub plan_in : {A : Type 0} → List (String A) → Option Plan
 plan_in given = words.plan_of (map string_bytes given)
 
--- what the sources tell of their bytes
+-- what the sources tell of their bytes, and what the script's has left after the call
 pub record Sources : Type 0 where
   pub program : Option (List ℕ)
   pub script : Option (List ℕ)
   pub image : Option (List ℕ)
+  pub rest : Option (List ℕ)
 
 -- what the sinks tell of the bytes written, the device, and the steps so far
 pub record Outside : Type 0 where
@@ -28,11 +29,12 @@ abbrev pub seen : (out image : Option (List ℕ)) → Device → ℕ → Outside
 seen out image dev steps = record { out = out; image = image; dev = dev; steps = steps }
 
 abbrev pub told_by : {S T I K O P : Type 0} → (S → Option (List ℕ)) → (T → Option (List ℕ))
-    → (I → Option (List ℕ)) → World S T I K O P → Sources
-told_by program script image world = record {
-  program = program world.program;
-  script = script world.script;
-  image = image world.image_in;
+    → (I → Option (List ℕ)) → (old new : World S T I K O P) → Sources
+told_by program script image old new = record {
+  program = program old.program;
+  script = script old.script;
+  image = image old.image_in;
+  rest = script new.script;
 }
 
 abbrev pub seen_by : {S T I K O P : Type 0} → (K → Option (List ℕ)) → (O → Option (List ℕ))

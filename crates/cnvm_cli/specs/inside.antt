@@ -2,5 +2,6 @@
 pub mod Ends
 pub mod Opened
 pub mod PoolEnds
+pub mod ServeEnds
 pub mod Texts
 pub mod WorkersEnds

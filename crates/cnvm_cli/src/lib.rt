@@ -1,16 +1,18 @@
 //! The top call: it compiles a program, and then runs a script's commands on its pool and answers
-//! each line, lists the program's log marks and their reasons, runs a storm, or prints the program
-//! as C. It rests on the words, the compiler and the session. Its one contract for the program
-//! above: the status and the lines written are those that the words, the program, the script and the
-//! image call for.
+//! each line, or answers lines as they come, lists the program's log marks and their reasons, runs
+//! a storm, or prints the program as C or its code. It rests on the words, the compiler and the
+//! session. Its one contract for the program above: the status and the lines written are those that
+//! the words, the program, the script and the image call for.
 #![tactic(auto)]
 
+mod instructions;
 mod native;
 mod pool;
 mod reading;
 mod reasons;
 mod refused;
 mod run;
+mod serving;
 mod traps;
 mod workers;
 mod world;

@@ -5,7 +5,7 @@ ghost use Rattle.std.specs.Prelude.{slice_index_or};
 ghost use Rattle.std.specs.Io.KnownBytes.{IsAtEnd};
 ghost use Rattle.nvm_base.specs.Rose.{Rose};
 ghost use Rattle.file_pmem.specs.Found.{Found};
-ghost use Rattle.cnvm_cli.specs.PoolMeant.{held_by, pool_side, IsKept};
+ghost use Rattle.cnvm_cli.specs.PoolSide.{held_by, pool_side, IsKept};
 ghost use Rattle.cnvm_cli.specs.World.{told_by};
 ghost use Rattle.cnvm_cli.specs.inside.PoolEnds.{FileEnds, FoundEnds, MissingEnds, ImageEnds};
 
@@ -52,7 +52,7 @@ pub(crate) fn run_file<
     ensures image { world.new.image_out ≡ world.old.image_out }
     ensures device { world.new.dev ≡ world.old.dev }
     ensures kept { IsKept (held_by N.memory G.File.content dev.new) }
-    ensures ends { FileEnds asked (told_by S.left T.left I.left world.old) result
+    ensures ends { FileEnds asked (told_by S.left T.left I.left world.old world.new) result
         (pool_side (G.found pools.old) (K.written world.old.out) (held_by N.memory G.File.content
         dev.old) steps.old) (pool_side (G.found pools.new) (K.written world.new.out)
         (held_by N.memory G.File.content dev.new) steps.new) }
@@ -178,7 +178,7 @@ fn run_image<I: Source, K: Sink, N: Lines + Drop, F: LineFile + Drop, L: Ledger>
 }
 
 /// Tells whether a file's words are those that the image was made with.
-fn are_same(held: &[i64], given: &[i64]) -> bool
+pub(crate) fn are_same(held: &[i64], given: &[i64]) -> bool
     ensures same { result ≡ true → held.now ≡ given.now }
     ensures other { result ≡ false → held.now ≢ given.now }
 {
@@ -186,7 +186,7 @@ fn are_same(held: &[i64], given: &[i64]) -> bool
 }
 
 /// The refusal of a pool whose words aren't those of the image: its second word is its version.
-fn other_words(held: &[i64]) -> Refused
+pub(crate) fn other_words(held: &[i64]) -> Refused
     requires { 1 < length held.now }
     ensures { result ≡ Refused.Image (ImageFault.Version (slice_index_or held.now 1 (pos 0))
         (pos 2)) }

@@ -34,7 +34,8 @@ pub enum Refused {
 
 /// The usage line.
 const USAGE: &str = "usage: cnvm run PROGRAM SCRIPT | list PROGRAM \
-    | storm PROGRAM START COUNT | why PROGRAM | workers PROGRAM SCRIPT | emit PROGRAM\n";
+    | storm PROGRAM START COUNT | why PROGRAM | workers PROGRAM SCRIPT | serve PROGRAM \
+    | emit PROGRAM | code PROGRAM\n";
 
 /// Reports a refusal; the status is the refusal's. Of a source that failed, and of want of memory,
 /// nothing is reported.

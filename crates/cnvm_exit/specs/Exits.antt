@@ -11,7 +11,7 @@ use Rattle.session_run.specs.StatusNumber.{status_number}
 use Rattle.cnvm_cli.specs.World.{Sources, seen}
 
 abbrev pub no_sources : Sources
-no_sources = record { program = None; script = None; image = None }
+no_sources = record { program = None; script = None; image = None; rest = None }
 
 -- a new device in memory: it has no lines and shows its armed fault, of which there is none
 abbrev pub new_device : Device

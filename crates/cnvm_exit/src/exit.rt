@@ -1,33 +1,39 @@
-//! The program's edge: the words of the command line, files, standard output and a device in
-//! memory.
+//! The program's edge: the words of the command line, files, standard input and output, and a
+//! device in memory.
 
 ghost use Rattle.std.specs.Prelude.{◌≡◌, ◌≢◌, ◌⊎◌, ◌<◌, map, string_bytes, None, IfSome};
 ghost use Rattle.nvm_base.specs.Path.{path_of_source, path_of_sink, path_of_saved};
-ghost use Rattle.nvm_base.specs.Path.{source_below, sink_below};
+ghost use Rattle.nvm_base.specs.Path.{source_below};
 ghost use Rattle.cnvm_exit.specs.Exits.{EndsCall, Exits};
 ghost use Rattle.cnvm_cli.specs.PoolMeant.{HasPool};
 ghost use Rattle.cnvm_cli.specs.World.{plan_in};
-ghost use Rattle.cnvm_exit.specs.inside.Paths.{path_or_none, program_alone, paths_in};
+ghost use Rattle.cnvm_exit.specs.inside.Paths.{path_or_none, program_alone, served_paths};
+ghost use Rattle.cnvm_exit.specs.inside.Paths.{paths_in, origin_of, path_of_script};
 
+use crate::answer_sink::AnswerSink;
+use crate::line_notes::{INPUT, LineNotes};
 use crate::notes::{FileWorld, Named, put_bytes, tell_end};
+use crate::script_source::{MOST_KEPT, Origin, ScriptSource};
 use cnvm_cli::{World, cnvm};
 use cnvm_session::Traps;
 use cnvm_words::{Plan, WordsFault, plan_of};
 use file_pmem::{FilePmem, Hold, StdFile, StdPools};
-use nvm_base::{KeptSink, KeptSource, SavedFile, StdNotes, StdSink, StdSource, Steps, Text};
+use nvm_base::{KeptSource, SavedFile, StdNotes, StdSink, StdSource, Steps, Text};
 use pmem::{SparseLines, SparsePmem};
 use session_run::Status;
 use std::alloc::Global;
 use std::env;
+use std::io::IsTerminal;
 use std::marker::Brand;
 use std::os::unix::fs::FileExt;
 use std::rt::{Env, Files};
 use std::sync::ledger::{Blank, Ledger};
 
 /// Runs the program on the words of the command line; the answer is its exit status.
-pub fn exit_code<R: Files + Print + Eprint + Env + AllocGlobal>(rt: &R) -> u8
+pub fn exit_code<R: Files + Input + Print + Eprint + Env + AllocGlobal>(rt: &R) -> u8
 where
     R::File: FileExt + Hold,
+    R::Reader: IsTerminal,
     ensures { Exits result }
 {
     match words_of(rt) {
@@ -47,10 +53,12 @@ fn words_of<R: Env + AllocGlobal>(rt: &R) -> Option<Vec<String>> {
     words.ok()
 }
 
-/// The paths that the words name; an empty path where they name none.
+/// The paths that the words name; an empty path where they name none. A script may also come from
+/// standard input.
 #[derive(Drop)]
 struct Paths {
     program: Text,
+    origin: Origin,
     script: Text,
     image_in: Text,
     image_out: Text,
@@ -80,6 +88,7 @@ fn paths_in(alloc: Global, plan: Plan) -> Paths
             ..
         } => Paths {
             program: program_path,
+            origin: origin_of(script_path.as_str()),
             script: script_path,
             image_in: given_or_empty(alloc, start_image),
             image_out: given_or_empty(alloc, end_image),
@@ -91,10 +100,17 @@ fn paths_in(alloc: Global, plan: Plan) -> Paths
             ..
         } => Paths {
             program: program_path,
+            origin: origin_of(script_path.as_str()),
             script: script_path,
             image_in: pool_path,
             image_out: Text::new(alloc),
         },
+        Plan::Serve { program_path, .. } => served_paths(alloc, program_path, Text::new(alloc)),
+        Plan::ServePool {
+            program_path,
+            pool_path,
+            ..
+        } => served_paths(alloc, program_path, pool_path),
         Plan::List { program_path } => program_alone(alloc, program_path),
         Plan::Storm { program_path, .. } => program_alone(alloc, program_path),
         Plan::Why { program_path } => program_alone(alloc, program_path),
@@ -104,11 +120,13 @@ fn paths_in(alloc: Global, plan: Plan) -> Paths
             ..
         } => Paths {
             program: program_path,
+            origin: Origin::File,
             script: script_path,
             image_in: Text::new(alloc),
             image_out: Text::new(alloc),
         },
         Plan::Emit { program_path, .. } => program_alone(alloc, program_path),
+        Plan::Code { program_path } => program_alone(alloc, program_path),
     }
 }
 
@@ -118,9 +136,34 @@ fn program_alone(alloc: Global, program: Text) -> Paths
 {
     Paths {
         program,
+        origin: Origin::File,
         script: Text::new(alloc),
         image_in: Text::new(alloc),
         image_out: Text::new(alloc),
+    }
+}
+
+/// Lines that come are answered on the pool of this path, or in memory.
+fn served_paths(alloc: Global, program: Text, pool: Text) -> Paths
+    ensures { result ≡ served_paths program pool }
+{
+    Paths {
+        program,
+        origin: Origin::Lines,
+        script: Text::new(alloc),
+        image_in: pool,
+        image_out: Text::new(alloc),
+    }
+}
+
+/// Where the script of this path comes from: `-` is standard input.
+fn origin_of(path: &str) -> Origin
+    ensures { result ≡ origin_of path.now }
+{
+    if path == "-" {
+        Origin::Input
+    } else {
+        Origin::File
     }
 }
 
@@ -135,9 +178,10 @@ fn given_or_empty(alloc: Global, path: Option<Text>) -> Text
 }
 
 /// Runs what these words ask for on the files that they name.
-pub fn run_on<R: Files + Print + Eprint + AllocGlobal>(rt: &R, words: &[String]) -> Status
+pub fn run_on<R: Files + Input + Print + Eprint + AllocGlobal>(rt: &R, words: &[String]) -> Status
 where
     R::File: FileExt + Hold,
+    R::Reader: IsTerminal,
     ensures usage { result ≡ Status.Usage → plan_in words.entry.now ≡ None }
     ensures wrong { plan_in words.entry.now ≡ None → (result ≡ Status.Usage)
         ⊎ ((result ≡ Status.NoMemory) ⊎ (result ≡ Status.WriteFault)) }
@@ -160,24 +204,30 @@ fn tell_no_memory<R: Eprint>(rt: &R) {
 }
 
 /// The files of these paths, each opened at its own; the answers go to standard output.
-fn world_on<'a, R: Files + Print + AllocGlobal, P>(
+fn world_on<'a, R: Files + Input + Print + Eprint + AllocGlobal, P>(
     rt: &'a R,
     paths: &'a Paths,
     dev: P,
 ) -> FileWorld<'a, R, P>
+where
+    R::Reader: IsTerminal,
     ensures program { path_of_source (source_below result.program) ≡ paths.now.program }
-    ensures script { path_of_source (source_below result.script) ≡ paths.now.script }
+    ensures script { path_of_script result.script ≡ paths.now.script }
     ensures image_in { path_of_source (source_below result.image_in) ≡ paths.now.image_in }
-    ensures out { path_of_sink (sink_below result.out) ≡ None }
+    ensures out { path_of_sink result.out.sink ≡ None }
     ensures image_out { path_of_saved result.image_out ≡ paths.now.image_out }
     ensures dev { result.dev ≡ dev }
 {
     let alloc = rt.alloc();
+    let most = match paths.origin {
+        Origin::Lines => MOST_KEPT,
+        Origin::File | Origin::Input => usize::MAX,
+    };
     World {
         program: KeptSource::new(alloc, StdSource::new(rt, paths.program.as_str())),
-        script: KeptSource::new(alloc, StdSource::new(rt, paths.script.as_str())),
+        script: ScriptSource::new(alloc, rt, paths.script.as_str(), paths.origin, most),
         image_in: KeptSource::new(alloc, StdSource::new(rt, paths.image_in.as_str())),
-        out: KeptSink::new(alloc, StdSink::standard(rt)),
+        out: AnswerSink::new(alloc, StdSink::standard(rt), most),
         image_out: SavedFile::new(rt, paths.image_out.as_str()),
         dev,
         traps: Traps::new(),
@@ -185,7 +235,7 @@ fn world_on<'a, R: Files + Print + AllocGlobal, P>(
 }
 
 /// Runs what the words ask for on the files of these paths.
-fn run_with<R: Files + Print + Eprint + AllocGlobal, L: Ledger>(
+fn run_with<R: Files + Input + Print + Eprint + AllocGlobal, L: Ledger>(
     rt: &R,
     words: &[String],
     paths: &Paths,
@@ -193,6 +243,7 @@ fn run_with<R: Files + Print + Eprint + AllocGlobal, L: Ledger>(
 ) -> Status
 where
     R::File: FileExt + Hold,
+    R::Reader: IsTerminal,
     requires name { blank.name ≡ L.name }
     requires parts { blank.parts ≡ L.parts }
     requires some { 0 < blank.parts }
@@ -207,7 +258,10 @@ where
     let mut pools = StdPools::new(rt, paths.image_in.as_str());
     let mut held = FilePmem::<SparseLines, StdFile<R::File>>::new(alloc);
     let mut steps = Steps::<L>::new(blank);
-    let status = cnvm(alloc, words, &mut world, &mut pools, &mut held, &mut steps);
+    let mut bad = LineNotes::new(alloc, rt);
+    let status = cnvm(
+        alloc, words, &mut world, &mut pools, &mut held, &mut bad, &mut steps,
+    );
     let mut notes = StdNotes::new(rt);
     tell_end(
         alloc,
@@ -225,7 +279,10 @@ where
 fn names_of(paths: &Paths) -> Named<'_> {
     Named {
         program: paths.program.as_str(),
-        script: paths.script.as_str(),
+        script: match paths.origin {
+            Origin::File => paths.script.as_str(),
+            Origin::Input | Origin::Lines => INPUT,
+        },
         image_in: paths.image_in.as_str(),
         image_out: paths.image_out.as_str(),
     }

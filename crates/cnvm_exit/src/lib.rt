@@ -4,7 +4,10 @@
 //! these words.
 #![tactic(auto)]
 
+mod answer_sink;
 mod exit;
+mod line_notes;
 mod notes;
+mod script_source;
 
 pub use exit::{exit_code, run_on};

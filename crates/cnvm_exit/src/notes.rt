@@ -1,14 +1,17 @@
 //! What is told to a person after a run: made from its status and from what it read and wrote. No
 //! status and no byte of standard output depends on it.
 
+use crate::answer_sink::AnswerSink;
+use crate::script_source::ScriptSource;
 use cnvm_cli::{World, push_digest};
 use cnvm_notes::{
     RunTexts, Stormed, WorkersTexts, answers_note, script_note, storm_note, workers_answers_note,
     workers_note,
 };
+use cnvm_script::next_line;
 use cnvm_session::{Trapped, Traps};
 use cnvm_words::{Plan, plan_of};
-use nvm_base::{KeptSink, KeptSource, Reason, SavedFile, Sink, StdSink, StdSource, write_all};
+use nvm_base::{KeptSource, Reason, SavedFile, Sink, StdSink, StdSource, write_all};
 use plain_notes::{
     Digests, ImageRefusal, Told, message_of, of_image, of_words, unread, unsaved, unwritten,
 };
@@ -21,9 +24,9 @@ use std::rt::Files;
 /// What a run on files reads and writes, with a copy of what went through.
 pub(crate) type FileWorld<'a, R, P> = World<
     KeptSource<StdSource<'a, R>>,
+    ScriptSource<'a, R>,
     KeptSource<StdSource<'a, R>>,
-    KeptSource<StdSource<'a, R>>,
-    KeptSink<StdSink<'a, R>>,
+    AnswerSink<StdSink<'a, R>>,
     SavedFile<'a, R>,
     P,
 >;
@@ -39,7 +42,7 @@ pub(crate) struct Named<'a> {
 
 /// Tells how a run ended; `pool` is why a pool's file couldn't be opened or made. Where there is no
 /// memory for the message a short one is written; where the sink fails none is.
-pub(crate) fn tell_end<R: Files + Print + AllocGlobal, P: Drop, N: Sink>(
+pub(crate) fn tell_end<R: Files + Input + Print + AllocGlobal, P: Drop, N: Sink>(
     alloc: Global,
     words: &[String],
     named: Named<'_>,
@@ -64,7 +67,7 @@ pub(crate) fn put_bytes<N: Sink>(notes: &mut N, bytes: &[u8]) {
     }
 }
 
-fn message<R: Files + Print + AllocGlobal, P: Drop>(
+fn message<R: Files + Input + Print + AllocGlobal, P: Drop>(
     alloc: Global,
     words: &[String],
     named: Named<'_>,
@@ -99,7 +102,7 @@ fn of_device(
         return Ok(Some(message_of(alloc, &told)?));
     }
     match plan_of(alloc, words) {
-        Ok(Plan::RunPool { .. }) => {
+        Ok(Plan::RunPool { .. } | Plan::ServePool { .. }) => {
             let what = format!(in alloc;
                 "{}: the file refused a write or a sync; the next opening finds what is durable",
                 named.image_in
@@ -141,6 +144,9 @@ fn of_script(
     path: &str,
     text: Option<&[u8]>,
 ) -> Result<Option<String>, AllocError> {
+    if let Ok(Plan::Serve { .. } | Plan::ServePool { .. }) = plan_of(alloc, words) {
+        return plain(alloc, "standard input: a line has more than 1048576 bytes");
+    }
     let note = match text {
         Some(text) if has_workers(alloc, words) => workers_note(alloc, path, text)?,
         Some(text) => script_note(alloc, path, text)?,
@@ -175,7 +181,7 @@ struct Texts<'a> {
 }
 
 /// The message of answers that are traps or refusals.
-fn of_done<'a, R: Files + Print + AllocGlobal, P: Drop>(
+fn of_done<'a, R: Files + Input + Print + AllocGlobal, P: Drop>(
     alloc: Global,
     words: &[String],
     named: Named<'a>,
@@ -207,6 +213,7 @@ fn of_plan<'a>(
     match plan {
         Plan::Run { start_image, .. } => of_run(alloc, named, texts, traps, start_image.is_some()),
         Plan::RunPool { .. } => of_run(alloc, named, texts, traps, true),
+        Plan::Serve { .. } | Plan::ServePool { .. } => of_lines(alloc, named, texts, traps),
         Plan::Workers { .. } => {
             let run = WorkersTexts {
                 program_path: named.program,
@@ -228,13 +235,38 @@ fn of_plan<'a>(
             };
             storm_note(alloc, named.program, texts.answers, stormed)
         }
-        Plan::List { .. } | Plan::Why { .. } | Plan::Emit { .. } => Ok(None),
+        Plan::List { .. } | Plan::Why { .. } | Plan::Emit { .. } | Plan::Code { .. } => Ok(None),
     }
 }
 
 /// The line of a trap.
 fn line_of(trapped: Option<Trapped>) -> Option<u64> {
     trapped?.line
+}
+
+/// The message of the answers to lines that came, as of a run's: without the empty lines and the
+/// answers of bad lines.
+fn of_lines<'a>(
+    alloc: Global,
+    named: Named<'a>,
+    texts: Texts<'a>,
+    traps: &Traps,
+) -> Result<Option<String>, AllocError> {
+    let mut answers = Vec::new(alloc);
+    let mut rest = texts.answers;
+    'lines: while !rest.is_empty() {
+        let (line, others) = next_line(rest);
+        rest = others;
+        if !line.is_empty() && line != b"refused line".as_slice() {
+            answers.extend_from_slice(line)?;
+            answers.push(b'\n')?;
+        }
+    }
+    let told = Texts {
+        answers: answers.as_slice(),
+        ..texts
+    };
+    of_run(alloc, named, told, traps, true)
 }
 
 /// The message of a run's answers that are traps or refusals.
@@ -265,14 +297,14 @@ fn of_run<'a>(
     answers_note(alloc, run)
 }
 
-fn of_read<R: Files + Print + AllocGlobal, P: Drop>(
+fn of_read<R: Files + Input + Print + AllocGlobal, P: Drop>(
     alloc: Global,
     named: Named<'_>,
     world: &FileWorld<'_, R, P>,
     pool: Option<Reason>,
 ) -> Result<String, AllocError> {
     let program = world.program.source().reason();
-    let script = world.script.source().reason();
+    let script = world.script.reason();
     let told = if program.is_some() {
         unread(alloc, named.program, program)?
     } else if script.is_some() {
@@ -285,7 +317,7 @@ fn of_read<R: Files + Print + AllocGlobal, P: Drop>(
     message_of(alloc, &told)
 }
 
-fn of_write<R: Files + Print + AllocGlobal, P: Drop>(
+fn of_write<R: Files + Input + Print + AllocGlobal, P: Drop>(
     alloc: Global,
     named: Named<'_>,
     world: &FileWorld<'_, R, P>,
@@ -300,7 +332,7 @@ fn of_write<R: Files + Print + AllocGlobal, P: Drop>(
 }
 
 /// The message of an image, from the line that was written of it.
-fn of_refused_image<R: Files + Print + AllocGlobal, P: Drop>(
+fn of_refused_image<R: Files + Input + Print + AllocGlobal, P: Drop>(
     alloc: Global,
     words: &[String],
     named: Named<'_>,

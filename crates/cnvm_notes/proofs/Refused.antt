@@ -2,7 +2,7 @@
 use Rattle.std.proofs.Common.{◌≡◌, ◌<◌, ℕ, List, Some, None, Result, Ok, Err, length}
 use Rattle.plain_notes.specs.Head.{file_head}
 use Rattle.cnvm_notes.specs.RefusedLine.{TellsLine, TellsScript, Long, AtLine, Nothing}
-use Rattle.cnvm_notes.specs.RefusedLine.{long_script}
+use Rattle.cnvm_notes.specs.RefusedLine.{long_script, numbered_line}
 
 pub long : {A : Type 0} (path text message : List ℕ) (means : Result A ℕ) → 1048576 < length text
     → message ≡ file_head path long_script
@@ -10,7 +10,7 @@ pub long : {A : Type 0} (path text message : List ℕ) (means : Result A ℕ) �
 long path text message means more begins = Long message more begins
 
 pub at_line : {A : Type 0} (path text message : List ℕ) (means : Result A ℕ) (number : ℕ)
-    → means ≡ Err number → TellsLine path text number message
+    → means ≡ Err number → TellsLine path (numbered_line text number) number message
     → TellsScript path text means (Some message)
 at_line path text message means number is tells = AtLine message number is tells
 

@@ -20,11 +20,11 @@ begins_word line at =
 abbrev pub numbered_line : (text : List ℕ) → (number : ℕ) → List ℕ
 numbered_line text number = slice_index_or (lines text) (number - 1) []
 
--- a message that begins with the path, with the line and with the column of one of its words, or of
--- its end
-pub record TellsLine (path text : List ℕ) (number : ℕ) (message : List ℕ) : Type 0 where
+-- A message of a line of this number: it begins with the path, with the number and with the column
+-- of one of the line's words, or of its end.
+pub record TellsLine (path line : List ℕ) (number : ℕ) (message : List ℕ) : Type 0 where
   pub at : ℕ
-  pub word : begins_word (numbered_line text number) at ≡ true
+  pub word : begins_word line at ≡ true
   pub what : List ℕ
   pub rest : List ℕ
   pub begins : message
@@ -40,5 +40,6 @@ pub data TellsScript {A : Type 0} (path text : List ℕ) (means : Result A ℕ)
   Long : (message : List ℕ) → SCRIPT_BYTES < length text → message ≡ file_head path long_script
       → TellsScript path text means (Some message)
   AtLine : (message : List ℕ) (number : ℕ) → means ≡ Err number
-      → TellsLine path text number message → TellsScript path text means (Some message)
+      → TellsLine path (numbered_line text number) number message
+      → TellsScript path text means (Some message)
   Nothing : (commands : A) → means ≡ Ok commands → TellsScript path text means None

@@ -26,11 +26,19 @@ pub fn script_note(alloc: Global, path: &str, text: &[u8]) -> Result<Option<Stri
     match read_script(alloc, text) {
         Ok(_) => Ok(None),
         Err(ScriptFault::BadLine(number)) => {
-            let (at, told) = of_line(alloc, line_at(text, number))?;
-            Ok(Some(message_of_line(alloc, path, text, number, at, &told)?))
+            Ok(Some(line_note(alloc, path, number, line_at(text, number))?))
         }
         Err(ScriptFault::NoMemory) => Err(AllocError),
     }
+}
+
+/// The message of a refused line of this number. It begins with the path, the number and the column
+/// of a word.
+pub fn line_note(alloc: Global, path: &str, number: u64, line: &[u8]) -> Result<String, AllocError>
+    ensures tells { IfOk result (λ s. TellsLine path.now line.now number (string_bytes s)) }
+{
+    let (at, told) = of_line(alloc, line)?;
+    message_of_line(alloc, path, line, number, at, &told)
 }
 
 /// The message of the text of a script of workers, if it is refused.
@@ -45,8 +53,9 @@ pub fn workers_note(alloc: Global, path: &str, text: &[u8]) -> Result<Option<Str
     match read_workers(alloc, text) {
         Ok(_) => Ok(None),
         Err(ScriptFault::BadLine(number)) => {
-            let (at, told) = of_workers_line(alloc, line_at(text, number))?;
-            Ok(Some(message_of_line(alloc, path, text, number, at, &told)?))
+            let line = line_at(text, number);
+            let (at, told) = of_workers_line(alloc, line)?;
+            Ok(Some(message_of_line(alloc, path, line, number, at, &told)?))
         }
         Err(ScriptFault::NoMemory) => Err(AllocError),
     }
@@ -75,18 +84,17 @@ fn line_at(text: &[u8], number: u64) -> &[u8]
     rest
 }
 
-/// The message of a line of the text, at this byte of it.
+/// The message of a line of this number, at this byte of it.
 fn message_of_line(
     alloc: Global,
     path: &str,
-    text: &[u8],
+    line: &[u8],
     number: u64,
     at: u64,
     told: &Told,
 ) -> Result<String, AllocError>
-    ensures { IfOk result (λ s. TellsLine path.now text.now number (string_bytes s)) }
+    ensures { IfOk result (λ s. TellsLine path.now line.now number (string_bytes s)) }
 {
-    let line = line_at(text, number);
     let column = word_column(line, at as usize);
     let place = Place {
         line: number,

@@ -5,6 +5,7 @@ use cnvm_cli::{Status, Traps, World, cnvm};
 use file_pmem::{FilePmem, MemFile, MemPools, Place};
 use nvm_base::{MemSource, Steps};
 use pmem::{Pmem, SparseLines};
+use session_serve::NoNotes;
 use std::alloc::{AllocError, Global};
 use std::sync::ledger::Ledger;
 
@@ -79,7 +80,10 @@ pub(crate) fn run<P: Pmem + Drop, L: Ledger>(
     };
     let mut pools = MemPools::new(alloc, Place::Nothing, &[])?;
     let mut held = FilePmem::<SparseLines, MemFile>::new(alloc);
-    let status = cnvm(alloc, &words, &mut world, &mut pools, &mut held, steps);
+    let mut bad = NoNotes;
+    let status = cnvm(
+        alloc, &words, &mut world, &mut pools, &mut held, &mut bad, steps,
+    );
     Ok(Ended {
         status,
         out: Vec::from_slice(alloc, world.out.bytes())?,

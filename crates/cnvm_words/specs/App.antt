@@ -1,6 +1,6 @@
--- The words in clap's terms: one command with the subcommands run, list, storm, why, workers and
--- emit. Each option is named in full, takes one value, but for a flag, and is given at most once;
--- help and version are off.
+-- The words in clap's terms: one command with the subcommands run, list, storm, why, workers,
+-- serve, emit and code. Each option is named in full, takes one value, but for a flag, and is given
+-- at most once; help and version are off.
 use Rattle.std.specs.Prelude.{Some, true, codes}
 use Rattle.clap.specs.Words.{App, Rule, Text, new_app, new_rule, with_rule, with_subcommand}
 use Rattle.clap.specs.declared.builder.action.ArgAction.TheVariants.{Set, SetTrue}
@@ -54,6 +54,12 @@ workers_app =
     (place_rule (codes "script")))
     (option_rule (codes "workers")))
 
+abbrev pub serve_app : App
+serve_app =
+    sized
+    (with_rule (with_rule (new_app (codes "serve")) (place_rule (codes "program")))
+    (option_rule (codes "pool")))
+
 abbrev pub emit_app : App
 emit_app =
     sized
@@ -61,6 +67,9 @@ emit_app =
     (with_rule (with_rule (new_app (codes "emit")) (place_rule (codes "program")))
     (option_rule (codes "prefix")))
     (flag_rule (codes "header")))
+
+abbrev pub code_app : App
+code_app = with_rule (new_app (codes "code")) (place_rule (codes "program"))
 
 -- the words have no program name, and a subcommand is required
 abbrev pub bare_app : App
@@ -74,10 +83,14 @@ bare_app = let a = new_app (codes "cnvm") in record a {
   };
 }
 
--- a command with the subcommands why, workers and emit
+-- a command with the subcommands why, workers, serve, emit and code
 abbrev pub with_others : App → App
 with_others app =
-    with_subcommand (with_subcommand (with_subcommand app why_app.top) workers_app.top) emit_app.top
+    with_subcommand
+    (with_subcommand
+    (with_subcommand
+    (with_subcommand (with_subcommand app why_app.top) workers_app.top) serve_app.top) emit_app.top)
+    code_app.top
 
 unfoldable pub cnvm_app : App
 cnvm_app =

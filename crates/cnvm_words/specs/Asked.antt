@@ -11,7 +11,8 @@ use Rattle.cnvm_words.specs.App.{cnvm_app}
 use Rattle.cnvm_words.specs.Prefix.{asked_prefix}
 use Rattle.cnvm_words.specs.declared.plan.Plan.{Plan}
 use Rattle.cnvm_words.specs.declared.plan.Plan.TheVariants.{Run, List as Listing, Storm, Why}
-use Rattle.cnvm_words.specs.declared.plan.Plan.TheVariants.{Workers, Emit, RunPool}
+use Rattle.cnvm_words.specs.declared.plan.Plan.TheVariants.{Workers, Emit, RunPool, Serve}
+use Rattle.cnvm_words.specs.declared.plan.Plan.TheVariants.{ServePool, Code}
 
 abbrev pub in_limits : (least most n : ℕ) → Option ℕ
 in_limits least most n = if nat_le least n && nat_le n most then Some n else None
@@ -77,6 +78,19 @@ workers_plan rows =
     (first_of (codes "script") rows))
     (first_of (codes "program") rows)
 
+-- a pool's file is named, or the pool is in memory
+abbrev pub serve_on : (program : List ℕ) → (slots records ticks : ℕ) → (pool : Option (List ℕ))
+    → Plan
+serve_on program slots records ticks None = Serve program slots records ticks
+serve_on program slots records ticks (Some pool) = ServePool program slots records ticks pool
+
+abbrev pub serve_plan : List Row → Option Plan
+serve_plan rows =
+    option_and_then (λ program. option_map (λ sizes.
+    serve_on program sizes.0 sizes.1 sizes.2 (first_of (codes "pool") rows))
+    (asked_pool rows))
+    (first_of (codes "program") rows)
+
 -- a flag's value is a word of clap's
 abbrev pub is_set : Option (List ℕ) → Bool
 is_set None = false
@@ -90,6 +104,9 @@ emit_plan rows =
     (asked_prefix program (first_of (codes "prefix") rows)))
     (first_of (codes "program") rows)
 
+abbrev pub code_plan : List Row → Option Plan
+code_plan rows = option_map (λ program. Code program) (first_of (codes "program") rows)
+
 -- the plan of a subcommand with these rows
 abbrev pub subcommand_plan : Text → List Row → Option Plan
 subcommand_plan name rows =
@@ -97,8 +114,10 @@ subcommand_plan name rows =
     else (if bytes_eq name (codes "list") then list_plan rows
     else (if bytes_eq name (codes "why") then why_plan rows
     else (if bytes_eq name (codes "workers") then workers_plan rows
+    else (if bytes_eq name (codes "serve") then serve_plan rows
     else (if bytes_eq name (codes "emit") then emit_plan rows
-    else storm_plan rows))))
+    else (if bytes_eq name (codes "code") then code_plan rows
+    else storm_plan rows))))))
 
 -- the plan of the words; none if they ask for nothing that exists
 abbrev pub plan_of : List Text → Option Plan

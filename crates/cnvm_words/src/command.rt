@@ -1,13 +1,14 @@
-//! The command as `clap` knows it: six subcommands. Their options take one value each, but for one
-//! that is a flag.
+//! The command as `clap` knows it: eight subcommands. Their options take one value each, but for
+//! one that is a flag.
 
 ghost use Rattle.std.specs.Prelude.{◌≡◌, false, IfOk};
 ghost use Rattle.clap.specs.declared.builder.command.Command.TheViews.{out-Command as fields_of};
 ghost use Rattle.clap.specs.Words.{app_of, rule_of};
 ghost use Rattle.cnvm_words.specs.App.{option_rule, flag_rule, place_rule, bare_app, sized, filed};
 ghost use Rattle.cnvm_words.specs.App.{run_app, list_app, storm_app, why_app, workers_app};
-ghost use Rattle.cnvm_words.specs.App.{emit_app, with_others, cnvm_app};
+ghost use Rattle.cnvm_words.specs.App.{serve_app, emit_app, code_app, with_others, cnvm_app};
 
+use crate::prints::with_prints;
 use clap::{Arg, ArgAction, Command};
 use std::alloc::{AllocError, Global};
 
@@ -110,7 +111,16 @@ fn workers_command<'a>(alloc: Global) -> Result<Command<'a>, AllocError>
     with_sizes(alloc, command)
 }
 
-fn emit_command<'a>(alloc: Global) -> Result<Command<'a>, AllocError>
+fn serve_command<'a>(alloc: Global) -> Result<Command<'a>, AllocError>
+    ensures app { IfOk result (λ r. app_of r ≡ serve_app) }
+    ensures local { IfOk result (λ r. (fields_of r).has_globals ≡ false) }
+{
+    let command = Command::new(alloc, "serve").arg(place_arg(alloc, "program"))?;
+    let command = command.arg(option_arg(alloc, "pool"))?;
+    with_sizes(alloc, command)
+}
+
+pub(crate) fn emit_command<'a>(alloc: Global) -> Result<Command<'a>, AllocError>
     ensures app { IfOk result (λ r. app_of r ≡ emit_app) }
     ensures local { IfOk result (λ r. (fields_of r).has_globals ≡ false) }
 {
@@ -120,7 +130,14 @@ fn emit_command<'a>(alloc: Global) -> Result<Command<'a>, AllocError>
     with_sizes(alloc, command)
 }
 
-/// A command with the subcommands `why`, `workers` and `emit`.
+pub(crate) fn code_command<'a>(alloc: Global) -> Result<Command<'a>, AllocError>
+    ensures app { IfOk result (λ r. app_of r ≡ code_app) }
+    ensures local { IfOk result (λ r. (fields_of r).has_globals ≡ false) }
+{
+    Command::new(alloc, "code").arg(place_arg(alloc, "program"))
+}
+
+/// A command with the subcommands `why`, `workers`, `serve`, `emit` and `code`.
 fn with_others<'a>(alloc: Global, command: Command<'a>) -> Result<Command<'a>, AllocError>
     requires { (fields_of command).has_globals ≡ false }
     ensures app { IfOk result (λ r. app_of r ≡ with_others (app_of command.entry)) }
@@ -128,7 +145,8 @@ fn with_others<'a>(alloc: Global, command: Command<'a>) -> Result<Command<'a>, A
 {
     let command = command.subcommand(why_command(alloc)?)?;
     let command = command.subcommand(workers_command(alloc)?)?;
-    command.subcommand(emit_command(alloc)?)
+    let command = command.subcommand(serve_command(alloc)?)?;
+    with_prints(alloc, command)
 }
 
 /// The whole command.

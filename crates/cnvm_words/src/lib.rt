@@ -6,6 +6,7 @@
 mod command;
 mod plan;
 mod prefix;
+mod prints;
 mod read;
 
 pub use plan::{Plan, WordsFault};

@@ -26,6 +26,21 @@ pub enum Plan {
         ticks: u64,
         pool_path: Text,
     },
+    /// Answers lines as they come, on a new pool in memory. The sizes are as for `Run`.
+    Serve {
+        program_path: Text,
+        slots: u64,
+        records: u64,
+        ticks: u64,
+    },
+    /// Answers lines as they come, on the pool of a file.
+    ServePool {
+        program_path: Text,
+        slots: u64,
+        records: u64,
+        ticks: u64,
+        pool_path: Text,
+    },
     /// Prints the log marks of the program.
     List {
         program_path: Text,
@@ -61,6 +76,10 @@ pub enum Plan {
         slots: u64,
         records: u64,
         ticks: u64,
+    },
+    /// Prints the program's intermediate code.
+    Code {
+        program_path: Text,
     },
 }
 

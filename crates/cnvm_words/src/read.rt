@@ -10,7 +10,9 @@ ghost use Rattle.clap.specs.declared.error.kind.ErrorKind.TheVariants.{OutOfMemo
 ghost use Rattle.cnvm_words.specs.App.{cnvm_app};
 ghost use Rattle.cnvm_words.specs.Asked.{in_limits, number_between, number_or, asked_pool};
 ghost use Rattle.cnvm_words.specs.Asked.{run_plan, list_plan, storm_plan, why_plan, workers_plan};
-ghost use Rattle.cnvm_words.specs.Asked.{is_set, emit_plan, subcommand_plan, plan_of, HasWorkers};
+ghost use Rattle.cnvm_words.specs.Asked.{is_set, serve_plan, emit_plan, code_plan, subcommand_plan};
+ghost use Rattle.cnvm_words.specs.Asked.{plan_of};
+ghost use Rattle.cnvm_words.specs.Asked.{HasWorkers};
 ghost use Rattle.cnvm_words.specs.Prefix.{asked_prefix};
 
 use crate::command::cnvm_command;
@@ -225,6 +227,33 @@ fn workers_plan(alloc: Global, matches: &ArgMatches<'_>) -> Result<Plan, WordsFa
     })
 }
 
+fn serve_plan(alloc: Global, matches: &ArgMatches<'_>) -> Result<Plan, WordsFault>
+    ensures ok { IfOk result (λ p. serve_plan (rows_of (found_of matches.now)) ≡ Some p) }
+    ensures few { IfOk result (λ p. HasWorkers p) }
+    ensures usage { result ≡ Err WordsFault.Usage
+        → serve_plan (rows_of (found_of matches.now)) ≡ None }
+{
+    let program_path = path_at(alloc, matches, "program")?;
+    let Some((slots, records, ticks)) = pool_of(matches) else {
+        return Err(WordsFault::Usage);
+    };
+    let Some(pool_path) = image_at(alloc, matches, "pool")? else {
+        return Ok(Plan::Serve {
+            program_path,
+            slots,
+            records,
+            ticks,
+        });
+    };
+    Ok(Plan::ServePool {
+        program_path,
+        slots,
+        records,
+        ticks,
+        pool_path,
+    })
+}
+
 /// Whether a flag was given.
 fn has_flag(matches: &ArgMatches<'_>, id: &str) -> bool
     ensures { result ≡ is_set (first_of id.now (rows_of (found_of matches.now))) }
@@ -270,6 +299,17 @@ fn emit_plan(alloc: Global, matches: &ArgMatches<'_>) -> Result<Plan, WordsFault
     })
 }
 
+fn code_plan(alloc: Global, matches: &ArgMatches<'_>) -> Result<Plan, WordsFault>
+    ensures ok { IfOk result (λ p. code_plan (rows_of (found_of matches.now)) ≡ Some p) }
+    ensures few { IfOk result (λ p. HasWorkers p) }
+    ensures usage { result ≡ Err WordsFault.Usage
+        → code_plan (rows_of (found_of matches.now)) ≡ None }
+{
+    Ok(Plan::Code {
+        program_path: path_at(alloc, matches, "program")?,
+    })
+}
+
 /// The plan of a subcommand.
 fn planned(alloc: Global, name: &str, matches: &ArgMatches<'_>) -> Result<Plan, WordsFault>
     ensures ok { IfOk result (λ p. subcommand_plan name.now (rows_of (found_of matches.now))
@@ -290,8 +330,14 @@ fn planned(alloc: Global, name: &str, matches: &ArgMatches<'_>) -> Result<Plan, 
     if name == "workers" {
         return workers_plan(alloc, matches);
     }
+    if name == "serve" {
+        return serve_plan(alloc, matches);
+    }
     if name == "emit" {
         return emit_plan(alloc, matches);
+    }
+    if name == "code" {
+        return code_plan(alloc, matches);
     }
     storm_plan(alloc, matches)
 }

@@ -3,7 +3,7 @@ use Rattle.std.proofs.Common.{◌≡◌, ℕ, ◌+◌, ◌<◌, ◌≤◌, Bool,
 use Rattle.std.proofs.Common.{Option, Some, None, inl, inr, refl, sym, ap, ◌∙◌, subst, arith}
 use Rattle.std.proofs.Common.{append_assoc, length-append, append-nil, ◌-◌, ◌^◌, take}
 use Rattle.std.specs.Prelude.{IfSome, slice_get, nat_lt}
-use Rattle.std.specs.Io.KnownBytes.{Appends}
+use Rattle.std.specs.Io.KnownBytes.{Appends, Keeps, IsAtEnd, prepend_known}
 use Rattle.std.proofs.lemmas.Bool.{ltb-false, ltb-true}
 use Rattle.std.proofs.lemmas.List.{drop_all}
 use Rattle.nvm_base.specs.Parts.{AppendsPart}
@@ -16,9 +16,9 @@ use Rattle.cnvm_session.specs.declared.program.Program.{Program}
 use Rattle.session_serve.specs.LineSize.{line_size, after_line}
 use Rattle.session_serve.specs.declared.serving.Served.{Served}
 use Rattle.session_serve.specs.declared.serving.Served.TheVariants as served
-use Rattle.session_serve.specs.Serves.{DoesMeaning, Serves, ServesAll, ServesFirst, ServesToLong}
-use Rattle.session_serve.specs.Serves.{ServesPart, ServedAs}
-use Rattle.session_serve.specs.inside.Next.{TakesLines}
+use Rattle.session_serve.specs.Serves.{DoesMeaning, Serves, ServesTo, ServesPart, TakesLines}
+use Rattle.session_serve.specs.Serves.{EndsInLine, ServedAs}
+use Rattle.session_serve.specs.inside.Next.{StaysSo, NextPart, NextAs}
 use Rattle.session_serve.proofs.Reading.{size_within, lines_cut, lines_one}
 
 pub serves_append : (p : Program) (xs ys : List (List ℕ)) (m m1 m' : Mode) (d d1 d' : Device)
@@ -55,89 +55,115 @@ takes_more (Some t) (Some t1) None xs ys first next = absurd next
 takes_more (Some t) (Some t1) (Some t2) xs ys first next =
     first ∙ ap (λ ls. xs ++ ls) next ∙ sym (append_assoc xs ys (lines t2))
 
--- all lines of what was left after the given ones
-all_after : (l l1 : Option (List ℕ)) (xs ys : List (List ℕ)) → TakesLines l xs l1
-    → IfSome l1 (λ text. ys ≡ lines text) → IfSome l (λ text. xs ++ ys ≡ lines text)
-all_after None l1 xs ys takes all = tt
-all_after (Some t) None xs ys takes all = absurd takes
-all_after (Some t) (Some t1) xs ys takes all = ap (λ ls. xs ++ ls) all ∙ sym takes
+-- nothing is read yet
+pub takes_first : (l : Option (List ℕ)) (ahead : List ℕ) → ahead ≡ []
+    → TakesLines l [] (prepend_known ahead l)
+takes_first None ahead none = tt
+takes_first (Some text) ahead none = ap (λ z. lines (z ++ text)) (sym none)
 
-rest_after : (l l1 : Option (List ℕ)) (xs ys : List (List ℕ)) → TakesLines l xs l1
-    → IfSome l1 (λ text. (rest : List (List ℕ)) × (lines text ≡ ys ++ rest))
-    → IfSome l (λ text. (rest : List (List ℕ)) × (lines text ≡ (xs ++ ys) ++ rest))
-rest_after None l1 xs ys takes some = tt
-rest_after (Some t) None xs ys takes some = absurd takes
-rest_after (Some t) (Some t1) xs ys takes some =
-    (some.0, takes ∙ ap (λ ls. xs ++ ls) some.1 ∙ sym (append_assoc xs ys some.0))
+takes_kept : (l l1 : Option (List ℕ)) → Keeps l l1 → TakesLines l [] l1
+takes_kept None l1 kept = tt
+takes_kept (Some text) None kept = absurd kept
+takes_kept (Some text) (Some same) kept = ap lines (sym kept)
 
-line_after : (l l1 : Option (List ℕ)) (xs ys : List (List ℕ)) (line : List ℕ)
-    → TakesLines l xs l1
-    → IfSome l1 (λ text. (rest : List (List ℕ)) × (lines text ≡ ys ++ line ∷ rest))
-    → IfSome l (λ text. (rest : List (List ℕ)) × (lines text ≡ (xs ++ ys) ++ line ∷ rest))
-line_after None l1 xs ys line takes some = tt
-line_after (Some t) None xs ys line takes some = absurd takes
-line_after (Some t) (Some t1) xs ys line takes some =
-    (some.0, takes ∙ ap (λ ls. xs ++ ls) some.1 ∙ sym (append_assoc xs ys (line ∷ some.0)))
+takes_still : (l l1 l2 : Option (List ℕ)) (xs : List (List ℕ)) → TakesLines l xs l1
+    → Keeps l1 l2 → TakesLines l xs l2
+takes_still None l1 l2 xs takes kept = tt
+takes_still (Some t) None l2 xs takes kept = absurd takes
+takes_still (Some t) (Some t1) None xs takes kept = absurd kept
+takes_still (Some t) (Some t1) (Some t2) xs takes kept =
+    takes ∙ ap (λ z. xs ++ lines z) (sym kept)
 
-long_after : (l l1 : Option (List ℕ)) (xs ys : List (List ℕ)) → TakesLines l xs l1
-    → IfSome l1 (λ text. (more : List ℕ) × (lines text ≡ ys ++ lines more)
+-- no line is left after the given ones
+all_after : (l l1 : Option (List ℕ)) (xs : List (List ℕ)) → TakesLines l xs l1
+    → IfSome l1 (λ text. lines text ≡ []) → IfSome l (λ text. xs ≡ lines text)
+all_after None l1 xs takes none = tt
+all_after (Some t) None xs takes none = absurd takes
+all_after (Some t) (Some t1) xs takes none =
+    sym (takes ∙ ap (λ ls. xs ++ ls) none ∙ append-nil xs)
+
+-- a long line is left after them
+long_after : (l l1 : Option (List ℕ)) (xs : List (List ℕ)) → TakesLines l xs l1
+    → IfSome l1 (λ text. SCRIPT_BYTES < line_size text)
+    → IfSome l (λ text. (more : List ℕ) × (lines text ≡ xs ++ lines more)
     × (SCRIPT_BYTES < line_size more))
-    → IfSome l (λ text. (more : List ℕ) × (lines text ≡ (xs ++ ys) ++ lines more)
-    × (SCRIPT_BYTES < line_size more))
-long_after None l1 xs ys takes some = tt
-long_after (Some t) None xs ys takes some = absurd takes
-long_after (Some t) (Some t1) xs ys takes some = (
-  some.0,
-  takes ∙ ap (λ ls. xs ++ ls) some.1 ∙ sym (append_assoc xs ys (lines some.0)),
-  some.2,
-)
+long_after None l1 xs takes long = tt
+long_after (Some t) None xs takes long = absurd takes
+long_after (Some t) (Some t1) xs takes long = (t1, takes, long)
 
--- Some lines were answered before.
+left_at_end : (ahead : List ℕ) (l : Option (List ℕ)) → IsAtEnd (prepend_known ahead l) → IsAtEnd l
+left_at_end ahead None end = tt
+left_at_end [] (Some xs) end = end
+left_at_end (b ∷ bs) (Some xs) end = absurd (cc)
+
+serves_same : (p : Program) (xs : List (List ℕ)) (m m1 m' : Mode) (d d1 d' : Device)
+    (w w1 w' : Option (List ℕ)) (k k1 k' : ℕ) → Serves p xs m d w k m1 d1 w1 k1
+    → StaysSo m1 d1 w1 k1 m' d' w' k' → Serves p xs m d w k m' d' w' k'
+serves_same p xs m m1 m' d d1 d' w w1 w' k k1 k' serves (a, b, c, e) = rw (a, b, c, e) serves
+
+-- Some lines were answered, and then serving ends.
 module _ (p : Program) (l l1 : Option (List ℕ)) (xs : List (List ℕ)) (m m1 m' : Mode)
     (d d1 d' : Device) (w w1 w' : Option (List ℕ)) (k k1 k' : ℕ) (takes : TakesLines l xs l1)
-    (before : Serves p xs m d w k m1 d1 w1 k1) where
-  first_after : (least : ℕ) → ServesFirst least l1 p m1 d1 w1 k1 m' d' w' k'
-      → ServesFirst least l p m d w k m' d' w' k'
-  first_after least next = (
-    xs ++ next.0,
-    omega (arith, length-append xs next.0, next.1),
-    rest_after l l1 xs next.0 takes next.2,
-    serves_append p xs next.0 m m1 m' d d1 d' w w1 w' k k1 k' before next.3,
+    (before : Serves p xs m d w k m1 d1 w1 k1) (ahead : List ℕ) (left : Option (List ℕ)) where
+  to_same : StaysSo m1 d1 w1 k1 m' d' w' k' → ServesTo p m d w k d' w' k' xs
+  to_same same = (m', serves_same p xs m m1 m' d d1 d' w w1 w' k k1 k' before same)
+
+  part_end : NextPart l1 (prepend_known ahead left) p m1 d1 w1 k1 m' d' w' k'
+      → EndsInLine l left (ServesPart p m d w k d' w' k')
+  part_end (line, taken, text, does, part) = (
+    xs,
+    line,
+    ahead,
+    takes_more l l1 (prepend_known ahead left) xs (line ∷ []) takes taken,
+    (m1, d1, w1, k1, before, text, m', does, part),
   )
 
-  part_after : ServesPart l1 p m1 d1 w1 k1 m' d' w' k' → ServesPart l p m d w k m' d' w' k'
-  part_after next = (
-    xs ++ next.0,
-    next.1,
-    line_after l l1 xs next.0 next.1 takes next.2,
-    next.3,
-    next.4,
-    next.5,
-    next.6,
-    serves_append p xs next.0 m m1 next.3 d d1 next.4 w w1 next.5 k k1 next.6 before next.7,
-    next.8,
-    next.9,
-    next.10,
+  pub served_end : (end : Served) → (end ≡ served.Done → IsAtEnd (prepend_known ahead left))
+      → (end ≡ served.ReadFault → line_size ahead ≡ length ahead)
+      → NextAs (Some end) l1 (prepend_known ahead left) p m1 d1 w1 k1 m' d' w' k'
+      → ServedAs end l left p m d w k d' w' k'
+  served_end served.Done at clean (none, same) =
+      (xs, all_after l l1 xs takes none, left_at_end ahead left (at refl), to_same same)
+  served_end served.ReadFault at clean (kept, same) = (
+    xs,
+    ahead,
+    clean refl,
+    takes_still l l1 (prepend_known ahead left) xs takes kept,
+    to_same same,
   )
+  served_end served.LongLine at clean (kept, long, same) =
+      (xs, long_after l l1 xs takes long, to_same same)
+  served_end served.ManyLines at clean next = absurd next
+  served_end served.NoMemory at clean (inl (kept, same)) = inl (
+    xs,
+    [],
+    ahead,
+    omega arith,
+    takes_more l l1 (prepend_known ahead left) xs [] takes
+        (takes_kept l1 (prepend_known ahead left) kept),
+    to_same same,
+  )
+  served_end served.NoMemory at clean (inr (inl (line, taken, same))) = inl (
+    xs,
+    line ∷ [],
+    ahead,
+    omega arith,
+    takes_more l l1 (prepend_known ahead left) xs (line ∷ []) takes taken,
+    to_same same,
+  )
+  served_end served.NoMemory at clean (inr (inr next)) = inr (part_end next)
+  served_end served.WriteFault at clean next = part_end next
+  served_end served.GivenUp at clean next = absurd next
 
-  pub served_after : (end : Served) → ServedAs end l1 p m1 d1 w1 k1 m' d' w' k'
-      → ServedAs end l p m d w k m' d' w' k'
-  served_after served.Done next = (
-    xs ++ next.0,
-    all_after l l1 xs next.0 takes next.1,
-    serves_append p xs next.0 m m1 m' d d1 d' w w1 w' k k1 k' before next.2,
-  )
-  served_after served.ReadFault next = first_after 0 next
-  served_after served.LongLine next = (
-    xs ++ next.0,
-    long_after l l1 xs next.0 takes next.1,
-    serves_append p xs next.0 m m1 m' d d1 d' w w1 w' k k1 k' before next.2,
-  )
-  served_after served.ManyLines next = first_after (2 ^ 64 - 1) next
-  served_after served.NoMemory (inl next) = inl (first_after 0 next)
-  served_after served.NoMemory (inr next) = inr (part_after next)
-  served_after served.WriteFault next = part_after next
-  served_after served.GivenUp next = first_after 1 next
+-- serving ends after lines that were answered
+pub given_end : (p : Program) (l left : Option (List ℕ)) (ahead : List ℕ)
+    (given : List (List ℕ)) (least : ℕ) (m m' : Mode) (d d' : Device) (w w' : Option (List ℕ))
+    (k k' : ℕ) → least ≤ length given → TakesLines l given (prepend_known ahead left)
+    → Serves p given m d w k m' d' w' k'
+    → (xs : List (List ℕ)) × (rest : List ℕ) × (least ≤ length xs)
+    × TakesLines l xs (prepend_known rest left) × ServesTo p m d w k d' w' k' xs
+given_end p l left ahead given least m m' d d' w w' k k' enough takes serves =
+    (given, ahead, enough, takes, (m', serves))
 
 -- the first line of a text, and the lines after it
 pub lines_first : (text line : List ℕ) → Some line ≡ slice_get (lines text) 0
@@ -182,59 +208,15 @@ takes_line None l' line is left = tt
 takes_line (Some text) l' line is left =
     subst (TakesLines (Some text) (line ∷ [])) (sym left) (lines_first text line is)
 
-no_first : (ls : List (List ℕ)) → None ≡ slice_get ls 0 → [] ≡ ls
+no_first : (ls : List (List ℕ)) → None ≡ slice_get ls 0 → ls ≡ []
 no_first [] none = refl
 no_first (x ∷ xs) none = absurd (cc)
 
 -- the input is at its end
-pub next_done : (p : Program) (l : Option (List ℕ)) (m : Mode) (d : Device)
-    (w : Option (List ℕ)) (k : ℕ) → IfSome l (λ text. None ≡ slice_get (lines text) 0)
-    → ServesAll l p m d w k m d w k
-next_done p None m d w k none = ([], tt, (refl, refl, refl, refl))
-next_done p (Some text) m d w k none = ([], no_first (lines text) none, (refl, refl, refl, refl))
-
-any_rest : (l : Option (List ℕ)) → IfSome l (λ text. (rest : List (List ℕ))
-    × (lines text ≡ [] ++ rest))
-any_rest None = tt
-any_rest (Some text) = (lines text, refl)
-
--- nothing has changed
-pub next_first : (p : Program) (l : Option (List ℕ)) (m m' : Mode) (d d' : Device)
-    (w w' : Option (List ℕ)) (k k' : ℕ) → m' ≡ m → d' ≡ d → w' ≡ w → k' ≡ k
-    → ServesFirst 0 l p m d w k m' d' w' k'
-next_first p l m m' d d' w w' k k' a b c e = ([], omega arith, any_rest l, (a, b, c, e))
-
-pub next_long : (p : Program) (l : Option (List ℕ)) (m : Mode) (d : Device)
-    (w : Option (List ℕ)) (k : ℕ) → IfSome l (λ text. SCRIPT_BYTES < line_size text)
-    → ServesToLong l p m d w k m d w k
-next_long p None m d w k long = ([], tt, (refl, refl, refl, refl))
-next_long p (Some text) m d w k long = ([], (text, refl, long), (refl, refl, refl, refl))
-
-first_line : (l : Option (List ℕ)) (line : List ℕ)
-    → IfSome l (λ text. Some line ≡ slice_get (lines text) 0)
-    → IfSome l (λ text. (rest : List (List ℕ)) × (lines text ≡ [] ++ line ∷ rest))
-first_line None line is = tt
-first_line (Some text) line is = (lines (after_line text), lines_first text line is)
-
--- what the line says is done, and a part of its answer is written
-pub next_part : (p : Program) (l : Option (List ℕ)) (line text : List ℕ) (m m' : Mode)
-    (d d' : Device) (w w' : Option (List ℕ)) (k k' : ℕ)
-    → IfSome l (λ all. Some line ≡ slice_get (lines all) 0)
-    → DoesMeaning (line_meaning line) p m d k text m' d' k' → AppendsPart w w' text
-    → ServesPart l p m d w k m' d' w' k'
-next_part p l line text m m' d d' w w' k k' is does part = (
-  [],
-  line,
-  first_line l line is,
-  m,
-  d,
-  w,
-  k,
-  (refl, refl, refl, refl),
-  text,
-  does,
-  part,
-)
+pub no_line : (l : Option (List ℕ)) → IfSome l (λ text. None ≡ slice_get (lines text) 0)
+    → IfSome l (λ text. lines text ≡ [])
+no_line None none = tt
+no_line (Some text) none = no_first (lines text) none
 
 appends_none : (w : Option (List ℕ)) → Appends w w []
 appends_none None = tt
@@ -247,20 +229,6 @@ untold_part w w' text same = record {
   split = refl;
   appended = subst (λ v. Appends w v []) (sym same) (appends_none w);
 }
-
-takes_rest : (l l' : Option (List ℕ)) (given : List (List ℕ)) → TakesLines l given l'
-    → IfSome l (λ text. (rest : List (List ℕ)) × (lines text ≡ given ++ rest))
-takes_rest None l' given takes = tt
-takes_rest (Some text) None given takes = absurd takes
-takes_rest (Some text) (Some more) given takes = (lines more, takes)
-
--- the lines that were taken are answered
-pub given_first : (least : ℕ) (p : Program) (l l' : Option (List ℕ)) (given : List (List ℕ))
-    (m m' : Mode) (d d' : Device) (w w' : Option (List ℕ)) (k k' : ℕ) → least ≤ length given
-    → TakesLines l given l' → Serves p given m d w k m' d' w' k'
-    → ServesFirst least l p m d w k m' d' w' k'
-given_first least p l l' given m m' d d' w w' k k' enough takes serves =
-    (given, enough, takes_rest l l' given takes, serves)
 
 -- one more line is taken and answered
 pub one_more : (n : ℕ) (p : Program) (l l1 l' : Option (List ℕ)) (given : List (List ℕ))

@@ -3,12 +3,13 @@ use Rattle.std.proofs.Common.{◌≡◌, ℕ, suc, ◌+◌, ◌-◌, ◌<◌, �
 use Rattle.std.proofs.Common.{if◌then◌else◌}
 use Rattle.std.proofs.Common.{List, [], ◌∷◌, ◌++◌, length, take, drop, Option, Some, None, Result}
 use Rattle.std.proofs.Common.{refl, sym, ap, ◌∙◌, arith, add-one, slice_index, Ok, Err, drop-cons}
-use Rattle.std.proofs.Common.{eq-eqb, append_assoc}
+use Rattle.std.proofs.Common.{eq-eqb, append_assoc, subst}
 use Rattle.std.proofs.lemmas.Bool.{ltb-false, ltb-true, ne_eqb}
-use Rattle.std.proofs.lemmas.List.{drop_all, take-append-drop, take-append-le}
+use Rattle.std.proofs.lemmas.List.{drop_all, length-take, take-append-drop, take-append-le}
 use Rattle.std.proofs.Math.Seq.{take-append-add}
 use Rattle.std.specs.Prelude.{codes, IfSome, IfOk, OnOk, slice_get, nat_lt}
 use Rattle.std.specs.Io.KnownBytes.{Consumes, IsAtEnd, Keeps, prepend_known}
+use Rattle.std.specs.List.{All}
 use Rattle.std.proofs.lemmas.Grind.{common_steps}
 use Rattle.cnvm_script.specs.Lines.{lines, without_cr, lines_ended}
 use Rattle.cnvm_script.specs.Pieces.{pieces, is_one_of, fronted}
@@ -308,3 +309,42 @@ pub clean_more : (x x' : List ℕ) (n : ℕ) → n ≡ line_size x → length x 
 clean_more x x' n size over front =
     let whole : n ≡ length x = omega (arith, size, over, size_within x) in
     ap (λ m. line_size (take m x')) whole ∙ ap line_size front ∙ sym size
+
+-- a read failed after bytes in which no line ends
+pub clean_whole : (x x' : List ℕ) (n : ℕ) → n ≡ line_size x → length x ≤ n → x' ≡ x
+    → line_size x' ≡ length x'
+clean_whole x x' n size over same =
+    subst (λ y. line_size y ≡ length y) (sym same) (omega (arith, size, over, size_within x))
+
+-- a CR that is dropped is one byte
+cr_short : (line : List ℕ) (n : ℕ) → length (without_cr line) < n → length line ≤ n
+cr_short line n short = by (slice_index line (length line - 1) == 13) refl short
+  where
+    by : (c : Bool) → (slice_index line (length line - 1) == 13) ≡ c
+        → length (if c then take (length line - 1) line else line) < n → length line ≤ n
+    by true is short = omega (arith, short, length-take (length line - 1) line)
+    by false is short = omega (arith, short)
+
+-- where each line is short, so is the first with its CR
+pub size_short : (t : List ℕ) (n : ℕ) → All (λ (line : List ℕ). length line < n) (lines t)
+    → line_size t ≤ n
+size_short [] n all = omega arith
+size_short (b ∷ bs) n all = by (nat_lt (line_size (b ∷ bs)) (length (b ∷ bs))) refl
+  where
+    by : (c : Bool) → nat_lt (line_size (b ∷ bs)) (length (b ∷ bs)) ≡ c
+        → line_size (b ∷ bs) ≤ n
+    by true is =
+        let less : line_size (b ∷ bs) < length (b ∷ bs) = ltb-true _ _ is in
+        let first : length (without_cr (take (line_size (b ∷ bs)) (b ∷ bs))) < n =
+        subst (All (λ (line : List ℕ). length line < n)) (lines_cut (b ∷ bs) less) all 0 []
+        (omega arith) in
+        let long : length (take (line_size (b ∷ bs)) (b ∷ bs)) ≡ line_size (b ∷ bs) =
+        grind (arith, common_steps) in
+        omega (arith, long, cr_short (take (line_size (b ∷ bs)) (b ∷ bs)) n first)
+    by false is =
+        let whole : line_size (b ∷ bs) ≡ length (b ∷ bs) =
+        omega (arith, size_within (b ∷ bs), ltb-false _ _ is) in
+        let first : length (b ∷ bs) < n =
+        subst (All (λ (line : List ℕ). length line < n))
+        (lines_one (b ∷ bs) whole (omega arith)) all 0 [] (omega arith) in
+        omega (arith, whole, first)

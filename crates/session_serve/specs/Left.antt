@@ -4,5 +4,5 @@ use Rattle.std.specs.Prelude.{ℕ, List, Option}
 use Rattle.std.specs.Io.KnownBytes.{prepend_known}
 use Rattle.session_serve.specs.declared.line_reader.LineReader.{LineReader}
 
-abbrev pub left_of : {S : Type 0} → (S → Option (List ℕ)) → LineReader S → Option (List ℕ)
-left_of left reader = prepend_known reader.ahead.items (left reader.source)
+abbrev pub left_of : {S : Type 0} → (S → Option (List ℕ)) → LineReader → S → Option (List ℕ)
+left_of left reader source = prepend_known reader.ahead.items (left source)

@@ -1,14 +1,15 @@
 //! Answers one line.
 
-ghost use Rattle.std.specs.Prelude.{◌≡◌, ◌++◌, ◌≤◌, Some, OnOk, OnErr, IfOk, IsErrOf, codes};
+ghost use Rattle.std.specs.Prelude.{◌≡◌, ◌≤◌, Some, OnOk, OnErr, IfOk, IsErrOf};
 ghost use Rattle.std.specs.Io.KnownBytes.{Appends};
 ghost use Rattle.nvm_base.specs.Parts.{AppendsPart};
 ghost use Rattle.nvm_base.specs.Rose.{Rose};
 ghost use Rattle.pool_layout.specs.Sizes.{pool_lines};
 ghost use Rattle.cnvm_script.specs.Commands.{line_meaning};
-ghost use Rattle.cnvm_session.specs.AnswerText.{answer_text};
+ghost use Rattle.session_serve.specs.Begins.{ended_text};
 ghost use Rattle.session_serve.specs.inside.Next.{AnsweredAs};
 
+use crate::bad_lines::BadLines;
 use cnvm_script::{Command, LineFault, read_line};
 use cnvm_session::{Answer, Program, Session, Traps, answer_text};
 use nvm_base::{Sink, Steps, Text, write_all};
@@ -27,15 +28,18 @@ pub(crate) enum Unanswered {
     Unwritten,
 }
 
-/// Does what the line says, and writes its answer and an empty line.
-pub(crate) fn answer_line<K: Sink, P: Pmem, L: Ledger>(
+/// Does what the line of this number says, and writes its answer and an empty line. Who is to hear
+/// of a bad line is told before that.
+pub(crate) fn answer_line<K: Sink, P: Pmem, B: BadLines, L: Ledger>(
     alloc: Global,
     program: &Program,
+    number: u64,
     line: &[u8],
     session: &mut Session,
     traps: &mut Traps,
     out: &mut K,
     dev: &mut P,
+    bad: &mut B,
     steps: &mut Steps<L>,
 ) -> Result<(), Unanswered>
     requires { (P.device dev.old).lines ≡ pool_lines program.now.image.parts.sizes }
@@ -52,7 +56,10 @@ pub(crate) fn answer_line<K: Sink, P: Pmem, L: Ledger>(
             answer_command(alloc, program, &command, session, traps, out, dev, steps)
         }
         Ok(None) => put(out, "\n"),
-        Err(LineFault::Bad) => put(out, "refused line\n\n"),
+        Err(LineFault::Bad) => {
+            bad.tell(number, line);
+            put(out, "refused line\n\n")
+        }
         Err(LineFault::NoMemory) => Err(Unanswered::Unread),
     }
 }
@@ -79,7 +86,26 @@ fn answer_command<K: Sink, P: Pmem, L: Ledger>(
 {
     let answer = session.command(alloc, program, command, dev, steps);
     traps.saw(&answer, session);
-    match ended_text(alloc, &answer) {
+    put_answer(alloc, &answer, out)
+}
+
+/// Writes an answer and an empty line.
+pub(crate) fn put_answer<K: Sink>(
+    alloc: Global,
+    answer: &Answer,
+    out: &mut K,
+) -> Result<(), Unanswered>
+    ensures whole { OnOk result (Appends (K.written out.old) (K.written out.new)
+        (ended_text answer.now)) }
+    ensures part { OnErr result (AppendsPart (K.written out.old) (K.written out.new)
+        (ended_text answer.now)) }
+    ensures untold { IsErrOf result Unanswered.Untold → K.written out.new ≡ K.written out.old }
+    ensures why { IsErrOf result Unanswered.Unread → ⊥ }
+    ensures write { IsErrOf result Unanswered.Unwritten
+        → Rose (K.faults out.old) (K.faults out.new) }
+    ensures count { K.faults out.old ≤ K.faults out.new }
+{
+    match ended_text(alloc, answer) {
         Ok(text) => put(out, text.as_str()),
         Err(_) => Err(Unanswered::Untold),
     }
@@ -87,7 +113,7 @@ fn answer_command<K: Sink, P: Pmem, L: Ledger>(
 
 /// The lines of an answer and an empty line.
 fn ended_text(alloc: Global, answer: &Answer) -> Result<Text, AllocError>
-    ensures { IfOk result (λ text. text ≡ answer_text answer.now ++ codes "\n") }
+    ensures { IfOk result (λ text. text ≡ ended_text answer.now) }
 {
     let mut text = answer_text(alloc, answer)?;
     text.push("\n")?;

@@ -37,50 +37,45 @@ const PIECE: usize = 4096;
 
 /// Reads the lines of a source. It reads only while no whole line is left of what it read before.
 #[derive(Drop)]
-pub struct LineReader<S> {
+pub struct LineReader {
     alloc: Global,
-    pub(crate) source: S,
     /// The bytes that were read, and not given in a line yet.
     pub(crate) ahead: Vec<u8>,
 }
 
-impl<S: Source> LineReader<S> {
-    pub fn new(alloc: Global, source: S) -> Self
-        ensures source { result.source ≡ source }
-        ensures none { result.ahead.items ≡ [] }
+impl LineReader {
+    /// A reader that has read nothing.
+    pub fn new(alloc: Global) -> Self
+        ensures { result.ahead.items ≡ [] }
     {
         LineReader {
             alloc,
-            source,
             ahead: Vec::new(alloc),
         }
     }
 
-    /// The source that is read.
-    pub fn source(&self) -> &S
-        ensures { result.now ≡ self.now.source }
-    {
-        &self.source
-    }
-
     /// The next line without its newline, or `None` at the end of input. A last line without a
-    /// newline counts.
-    pub fn next_line(&mut self) -> Result<Option<Bytes>, ReadLineFault>
-        ensures line { IfOk result (λ line. IfSome (left_of S.left self.old)
+    /// newline counts. All lines are to be asked of one source.
+    pub fn next_line<S: Source>(&mut self, source: &mut S) -> Result<Option<Bytes>, ReadLineFault>
+        ensures line { IfOk result (λ line. IfSome (left_of S.left self.old source.old)
             (λ text. line ≡ slice_get (lines text) 0)) }
-        ensures rest { OnOk result (IfSome (left_of S.left self.old)
-            (λ text. left_of S.left self.new ≡ Some (after_line text))) }
-        ensures within { OnOk result (IfSome (left_of S.left self.old)
+        ensures rest { OnOk result (IfSome (left_of S.left self.old source.old)
+            (λ text. left_of S.left self.new source.new ≡ Some (after_line text))) }
+        ensures within { OnOk result (IfSome (left_of S.left self.old source.old)
             (λ text. line_size text ≤ SCRIPT_BYTES)) }
-        ensures end { result ≡ Ok None → IsAtEnd (left_of S.left self.new) }
-        ensures long { IsErrOf result ReadLineFault.Long → IfSome (left_of S.left self.old)
+        ensures end { result ≡ Ok None → IsAtEnd (left_of S.left self.new source.new) }
+        ensures long { IsErrOf result ReadLineFault.Long
+            → IfSome (left_of S.left self.old source.old)
             (λ text. SCRIPT_BYTES < line_size text) }
         ensures fault { IsErrOf result ReadLineFault.ReadFault
-            → Rose (S.faults self.old.source) (S.faults self.new.source) }
-        ensures kept { OnErr result (Keeps (left_of S.left self.old) (left_of S.left self.new)) }
+            → Rose (S.faults source.old) (S.faults source.new) }
+        ensures partial { IsErrOf result ReadLineFault.ReadFault
+            → line_size self.new.ahead.items ≡ length self.new.ahead.items }
+        ensures kept { OnErr result (Keeps (left_of S.left self.old source.old)
+            (left_of S.left self.new source.new)) }
         ensures unread { line_size self.old.ahead.items < length self.old.ahead.items
-            → self.new.source ≡ self.old.source }
-        ensures count { S.faults self.old.source ≤ S.faults self.new.source }
+            → source.new ≡ source.old }
+        ensures count { S.faults source.old ≤ S.faults source.new }
     {
         let mut size = 0;
         'reads: loop {
@@ -91,30 +86,31 @@ impl<S: Source> LineReader<S> {
             if size < self.ahead.len() {
                 return self.give(size + 1);
             }
-            if !self.read_more()? {
+            if !self.read_more(source)? {
                 return self.give(size);
             }
         }
     }
 
     /// Reads a piece, and tells whether it had a byte.
-    fn read_more(&mut self) -> Result<bool, ReadLineFault>
-        ensures kept { Keeps (left_of S.left self.old) (left_of S.left self.new) }
+    fn read_more<S: Source>(&mut self, source: &mut S) -> Result<bool, ReadLineFault>
+        ensures kept { Keeps (left_of S.left self.old source.old)
+            (left_of S.left self.new source.new) }
         ensures front { take (length self.old.ahead.items) self.new.ahead.items
             ≡ self.old.ahead.items }
         ensures some { result ≡ Ok true
             → length self.old.ahead.items < length self.new.ahead.items }
         ensures same { OnErr result (self.new.ahead.items ≡ self.old.ahead.items) }
         ensures end { result ≡ Ok false → (self.new.ahead.items ≡ self.old.ahead.items)
-            × IsAtEnd (S.left self.new.source) }
+            × IsAtEnd (S.left source.new) }
         ensures fault { IsErrOf result ReadLineFault.ReadFault
-            → Rose (S.faults self.old.source) (S.faults self.new.source) }
+            → Rose (S.faults source.old) (S.faults source.new) }
         ensures long { IsErrOf result ReadLineFault.Long → ⊥ }
-        ensures count { S.faults self.old.source ≤ S.faults self.new.source }
+        ensures count { S.faults source.old ≤ S.faults source.new }
     {
         let size = self.ahead.len();
         self.ahead.resize(size + PIECE, 0)?;
-        match self.source.read(&mut self.ahead[size..]) {
+        match source.read(&mut self.ahead[size..]) {
             ReadAnswer::Count(count) => {
                 self.ahead.truncate(size + count);
                 Ok(count > 0)
@@ -134,7 +130,6 @@ impl<S: Source> LineReader<S> {
         ensures none { result ≡ Ok None → end ≡ 0 }
         ensures rest { OnOk result (self.new.ahead.items ≡ drop end self.old.ahead.items) }
         ensures same { OnErr result (self.new.ahead.items ≡ self.old.ahead.items) }
-        ensures source { self.new.source ≡ self.old.source }
         ensures memory { OnErr result (result ≡ Err ReadLineFault.NoMemory) }
     {
         if end == 0 {

@@ -11,6 +11,7 @@ use Rattle.cnvm_words.specs.declared.plan.Plan.{Plan}
 use Rattle.cnvm_words.specs.declared.plan.Plan.TheVariants as plan
 use Rattle.cnvm_cli.specs.declared.refused.Refused.{Refused}
 use Rattle.session_run.specs.declared.status.Status.{Status}
+use Rattle.cnvm_cli.specs.CodeEnds.{CodeEnds}
 use Rattle.cnvm_cli.specs.Emitted.{EmitEnds}
 use Rattle.cnvm_cli.specs.Listed.{ListEnds}
 use Rattle.cnvm_cli.specs.Meant.{Start, Fresh, FromImage, start_if}
@@ -18,6 +19,7 @@ use Rattle.cnvm_cli.specs.Run.{RefusedAs}
 use Rattle.session_run.specs.Saved.{SavedAs}
 use Rattle.cnvm_cli.specs.Verdict.{asked_by, OfBytes, ProgramRefuses, TextsGive, TextsRefuse}
 use Rattle.cnvm_cli.specs.WhyEnds.{WhyEnds}
+use Rattle.cnvm_cli.specs.inside.ServeEnds.{MemoryEnds}
 use Rattle.cnvm_cli.specs.inside.WorkersEnds.{WorkersEnds}
 use Rattle.cnvm_cli.specs.World.{Sources, Outside, IsUntouched}
 use Rattle.cnvm_cli.specs.inside.Opened.{ImageEnds}
@@ -83,6 +85,12 @@ PlanEnds (plan.Run p s slots records ticks from save) told result before after =
     (is_some save) result before after
 PlanEnds (plan.RunPool p s slots records ticks pool) told result before after =
     Keeps before.image after.image × (after.dev ≡ before.dev)
+PlanEnds (plan.Serve p slots records ticks) told result before after =
+    MemoryEnds (asked_by slots records ticks) told result before.out after.out before.dev after.dev
+    before.steps after.steps
+    × Keeps before.image after.image
+PlanEnds (plan.ServePool p slots records ticks pool) told result before after =
+    Keeps before.image after.image × (after.dev ≡ before.dev)
 PlanEnds (plan.List p) told result before after =
     ListEnds told.program result before.out after.out × IsUntouched before after
 PlanEnds (plan.Storm p start count slots records ticks) told result before after =
@@ -99,3 +107,5 @@ PlanEnds (plan.Workers p s workers slots records ticks) told result before after
 PlanEnds (plan.Emit p prefix header slots records ticks) told result before after =
     EmitEnds (asked_by slots records ticks) prefix header told.program result before.out after.out
     × IsUntouched before after
+PlanEnds (plan.Code p) told result before after =
+    CodeEnds told.program result before.out after.out × IsUntouched before after

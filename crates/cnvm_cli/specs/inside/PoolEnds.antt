@@ -11,8 +11,9 @@ use Rattle.cnvm_compile.specs.declared.compiling.Compiled.{Compiled}
 use Rattle.cnvm_words.specs.declared.plan.Plan.{Plan}
 use Rattle.cnvm_words.specs.declared.plan.Plan.TheVariants as plan
 use Rattle.cnvm_cli.specs.declared.refused.Refused.{Refused}
-use Rattle.cnvm_cli.specs.PoolMeant.{PoolSide, IsUnrun, RunsFile, TakesFile, MakesPool}
+use Rattle.cnvm_cli.specs.PoolSide.{PoolSide, IsUnrun, RunsFile, TakesFile, MakesPool}
 use Rattle.cnvm_cli.specs.Run.{RefusedAs}
+use Rattle.cnvm_cli.specs.inside.ServeEnds.{ServeEnds}
 use Rattle.cnvm_cli.specs.Verdict.{asked_by, TextsGive, TextsRefuse}
 use Rattle.cnvm_cli.specs.World.{Sources}
 
@@ -53,5 +54,7 @@ FileEnds asked told result before after =
 abbrev pub PlanOnFileEnds : Plan → Sources → Status → (before after : PoolSide) → Type 0
 PlanOnFileEnds (plan.RunPool p s slots records ticks pool) told result before after =
     FileEnds (asked_by slots records ticks) told result before after
+PlanOnFileEnds (plan.ServePool p slots records ticks pool) told result before after =
+    ServeEnds (asked_by slots records ticks) told result before after
 PlanOnFileEnds _ told result before after =
     (after.held ≡ before.held) × (after.found ≡ before.found)

@@ -1,6 +1,6 @@
 use Rattle.std.proofs.Common.{◌≡◌, List, ℤ, inl, inr, refl, sym, ap, ◌∙◌}
 use Rattle.pool_layout.specs.Sizes.{pool_lines}
-use Rattle.cnvm_cli.specs.PoolMeant.{PoolSide, held_by, pool_side}
+use Rattle.cnvm_cli.specs.PoolSide.{PoolSide, held_by, pool_side}
 use Rattle.cnvm_cli.proofs.PoolMeaning.{newest_by, runs_by, version_told}
 use Rattle.cnvm_cli.proofs.pool.run_image.Goals as goal
 

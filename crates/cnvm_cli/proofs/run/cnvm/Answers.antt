@@ -5,6 +5,9 @@ use Rattle.cnvm_cli.proofs.PoolMeaning.{plan_on_file_as, memory_on_file}
 use Rattle.session_run.proofs.Running.{keeps_same}
 use Rattle.cnvm_cli.proofs.run.cnvm.Goals as goal
 
+pub returns-in-Ok-clause-device : goal.returns-in-Ok-clause-device
+returns-in-Ok-clause-device g c is = rw c.in-Ok.ensures.ok (c.run_plan.ensures.device is)
+
 pub returns-in-Ok-clause-complete : goal.returns-in-Ok-clause-complete
 returns-in-Ok-clause-complete g c =
     plan_kept_as _ c.in-Ok.plan _ _ _ _ c.in-Ok.ensures.ok c.run_plan.ensures.ends

@@ -11,6 +11,15 @@ returns-in-Run-clause-ends g c =
       ← c.is_some-saves.ensures,
     ) c.run.ensures.ends
 
+pub returns-in-Serve-clause-ends : goal.returns-in-Serve-clause-ends
+returns-in-Serve-clause-ends g c =
+    rw (c.in-Serve.is, ← c.asked_by-asked-in-Serve.ensures)
+    (c.serve_memory.ensures.ends, c.serve_memory.ensures.image)
+
+pub returns-in-ServePool-clause-pool : goal.returns-in-ServePool-clause-pool
+returns-in-ServePool-clause-pool g c =
+    rw (c.in-ServePool.is, ← c.asked_by-asked-in-ServePool.ensures) c.serve_file.ensures.ends
+
 pub returns-in-Storm-clause-ends : goal.returns-in-Storm-clause-ends
 returns-in-Storm-clause-ends g c =
     rw (c.in-Storm.is, ← c.asked_by-asked-in-Storm.ensures)

@@ -1,8 +1,8 @@
-use Rattle.std.proofs.Common.{◌+◌, ◌∙◌, ap, sym, length, Ok, arith, ◌≤◌}
+use Rattle.std.proofs.Common.{◌+◌, ◌∙◌, ap, sym, refl, length, Ok, arith, ◌≤◌}
 use Rattle.session_serve.specs.LineSize.{line_size}
 use Rattle.session_serve.proofs.Reading.{size_found, long_left, within_left, line_left, rest_left}
 use Rattle.session_serve.proofs.Reading.{last_within, last_rest, keeps_on, size_within, no_whole}
-use Rattle.session_serve.proofs.Reading.{clean_more}
+use Rattle.session_serve.proofs.Reading.{clean_more, clean_whole}
 use Rattle.session_serve.proofs.line_reader.LineReader.next_line.Goals as goal
 
 pub returns-then-size-gt-SCRIPT_BYTES-clause-long :
@@ -11,7 +11,7 @@ returns-then-size-gt-SCRIPT_BYTES-clause-long g c is =
     let v = c.reads.invariant in
     let size = size_found c.reads.self.ahead.items c.deref.result.now c.reads.size
     c.line_size.result v.within v.clean c.deref.ensures.value c.line_size.ensures in
-    long_left _ (g.S.Source.left c.reads.self.source) c.reads.self.ahead.items _ _ v.kept size
+    long_left _ (g.S.Source.left c.reads.source) c.reads.self.ahead.items _ _ v.kept size
     c.if-size-gt-SCRIPT_BYTES.true
 
 pub returns-then-size-len-clause-line : goal.returns-then-size-len-clause-line
@@ -19,7 +19,7 @@ returns-then-size-len-clause-line g c =
     let v = c.reads.invariant in
     let size = size_found c.reads.self.ahead.items c.deref.result.now c.reads.size
     c.line_size.result v.within v.clean c.deref.ensures.value c.line_size.ensures in
-    line_left c.give.result _ (g.S.Source.left c.reads.self.source) c.reads.self.ahead.items _
+    line_left c.give.result _ (g.S.Source.left c.reads.source) c.reads.self.ahead.items _
     v.kept size (grind arith) c.give.ensures.line
 
 pub returns-then-size-len-clause-rest : goal.returns-then-size-len-clause-rest
@@ -27,16 +27,16 @@ returns-then-size-len-clause-rest g c =
     let v = c.reads.invariant in
     let size = size_found c.reads.self.ahead.items c.deref.result.now c.reads.size
     c.line_size.result v.within v.clean c.deref.ensures.value c.line_size.ensures in
-    rest_left c.give.result _ (g.S.Source.left c.reads.self.source) _ c.reads.self.ahead.items
+    rest_left c.give.result _ (g.S.Source.left c.reads.source) _ c.reads.self.ahead.items
     c.give.new.self.ahead.items _ v.kept size (grind arith)
-    (ap g.S.Source.left c.give.ensures.source) c.give.ensures.rest
+    refl c.give.ensures.rest
 
 pub returns-then-size-len-clause-within : goal.returns-then-size-len-clause-within
 returns-then-size-len-clause-within g c =
     let v = c.reads.invariant in
     let size = size_found c.reads.self.ahead.items c.deref.result.now c.reads.size
     c.line_size.result v.within v.clean c.deref.ensures.value c.line_size.ensures in
-    within_left c.give.result _ (g.S.Source.left c.reads.self.source) c.reads.self.ahead.items _ _
+    within_left c.give.result _ (g.S.Source.left c.reads.source) c.reads.self.ahead.items _ _
     v.kept size (grind arith) c.if-size-gt-SCRIPT_BYTES.false
 
 pub give-requires-then-not-branch : goal.give-requires-then-not-branch
@@ -54,10 +54,10 @@ returns-then-not-branch-clause-rest g c =
     let size = size_found c.reads.self.ahead.items c.deref.result.now c.reads.size
     c.line_size.result v.within v.clean c.deref.ensures.value c.line_size.ensures in
     let end = c.read_more.ensures.end (c.in_ok-read_more.was ∙ ap Ok c.if-not-branch.true) in
-    last_rest c.give-then-not-branch.result _ (left c.read_more.new.self.source) _
+    last_rest c.give-then-not-branch.result _ (left c.read_more.new.source) _
     c.read_more.new.self.ahead.items c.give-then-not-branch.new.self.ahead.items _
     (keeps_on _ _ _ v.kept c.read_more.ensures.kept) end.1 (size ∙ ap line_size (sym end.0))
-    (grind arith) (ap left c.give-then-not-branch.ensures.source)
+    (grind arith) refl
     c.give-then-not-branch.ensures.rest
 
 pub returns-then-not-branch-clause-within : goal.returns-then-not-branch-clause-within
@@ -67,7 +67,7 @@ returns-then-not-branch-clause-within g c =
     let size = size_found c.reads.self.ahead.items c.deref.result.now c.reads.size
     c.line_size.result v.within v.clean c.deref.ensures.value c.line_size.ensures in
     let end = c.read_more.ensures.end (c.in_ok-read_more.was ∙ ap Ok c.if-not-branch.true) in
-    last_within c.give-then-not-branch.result _ (left c.read_more.new.self.source)
+    last_within c.give-then-not-branch.result _ (left c.read_more.new.source)
     c.read_more.new.self.ahead.items _ _ (keeps_on _ _ _ v.kept c.read_more.ensures.kept) end.1
     (size ∙ ap line_size (sym end.0)) c.if-size-gt-SCRIPT_BYTES.false
 
@@ -86,6 +86,15 @@ returns-in_err-read_more-clause-unread g c less =
     c.line_size.result v.within v.clean c.deref.ensures.value c.line_size.ensures in
     no_whole c.args.self.now.ahead.items c.reads.self.ahead.items _ (v.unread less).1 size
     (grind arith) less
+
+pub returns-in_err-read_more-clause-partial : goal.returns-in_err-read_more-clause-partial
+returns-in_err-read_more-clause-partial g c = λ failed.
+    let v = c.reads.invariant in
+    let x = c.reads.self.ahead.items in
+    let size = size_found x c.deref.result.now c.reads.size c.line_size.result v.within v.clean
+    c.deref.ensures.value c.line_size.ensures in
+    let over : length x ≤ c.reads.size + c.line_size.result = grind arith in
+    clean_whole x c.read_more.new.self.ahead.items _ size over c.in_err-read_more.ensures.same
 
 pub overflow_add-size : goal.overflow_add-size
 overflow_add-size g c =

@@ -10,10 +10,11 @@ abbrev pub invariant-reads : goal.invariant-reads
 invariant-reads g l = record {
   within : l.size ≤ length l.self.ahead.items;
   clean : line_size (take l.size l.self.ahead.items) ≡ l.size;
-  kept : Keeps (left_of g.S.Source.left l.fn.self) (left_of g.S.Source.left l.self);
+  kept : Keeps (left_of g.S.Source.left l.fn.self l.fn.source)
+      (left_of g.S.Source.left l.self l.source);
   unread : line_size l.fn.self.ahead.items < length l.fn.self.ahead.items
-      → (l.self.source ≡ l.fn.self.source) × (l.self.ahead.items ≡ l.fn.self.ahead.items);
-  count : g.S.Source.faults l.fn.self.source ≤ g.S.Source.faults l.self.source;
+      → (l.source ≡ l.fn.source) × (l.self.ahead.items ≡ l.fn.self.ahead.items);
+  count : g.S.Source.faults l.fn.source ≤ g.S.Source.faults l.source;
 }
 
 abbrev pub decreases-reads : goal.decreases-reads

@@ -16,5 +16,5 @@ returns-in-Count-clause-kept g c =
     ∙ read_front buffer c.read.new.piece _ _ k n c.resize.new.self.len (grind arith)
     c.in-Count.ensures.within (grind arith)
     ∙ ap (λ z. z ++ take n c.read.new.piece) front in
-    rw got (moved_kept (g.S.Source.left c.args.self.now.source) (g.S.Source.left c.read.new.self)
+    rw got (moved_kept (g.S.Source.left c.args.source.now) (g.S.Source.left c.read.new.self)
     ahead (take n c.read.new.piece) c.in-Count.ensures.bytes)

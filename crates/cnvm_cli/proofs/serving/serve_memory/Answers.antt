@@ -1,0 +1,23 @@
+use Rattle.std.proofs.Common.{inr}
+use Rattle.cnvm_compile.specs.Compilation.{IsCompiled}
+use Rattle.cnvm_cli.proofs.Standing.{never_given}
+use Rattle.cnvm_cli.proofs.Sources.{known_bytes}
+use Rattle.cnvm_cli.proofs.serving.serve_memory.Goals as goal
+
+pub look_up-requires : goal.look_up-requires
+look_up-requires g c =
+    let is = known_bytes _ (λ text. IsCompiled c.args.asked text c.in-Ok.compiled)
+    c.in-Ok.ensures.told in
+    is.1.well_formed
+
+pub returns-in-Ok-clause-ends : goal.returns-in-Ok-clause-ends
+returns-in-Ok-clause-ends g c =
+    inr (
+      c.in-Ok.compiled,
+      c.in-Ok.ensures.told,
+      c.serve_created-served.result,
+      _,
+      c.status_of.ensures.status,
+      never_given c.serve_created-served.result c.serve_created-served.ensures.never,
+      c.serve_created-served.ensures.served,
+    )
