@@ -90,7 +90,7 @@ tx int64_t transfer(int64_t from, int64_t to, int64_t amount) {
     return 1;
 }
 
-// Moves money as well, and tests last: where an account isn't there or hasn't enough it traps, and is rolled back.
+// Moves money too, and tests last: it traps for want of an account or money, and is rolled back.
 tx abort int64_t pay(int64_t from, int64_t to, int64_t amount) {
     struct Account *giver = find(from);
     struct Account *taker = find(to);

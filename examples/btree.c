@@ -1,6 +1,6 @@
-// An ordered map of keys to values: the B-tree of PMDK's examples (tree_map/btree_map.c), whose nodes
-// have up to 8 children. An object has at most 15 words, so a node is two of them: the keys, and what
-// stands beside the keys.
+// An ordered map of keys to values: the B-tree of PMDK's examples (tree_map/btree_map.c), whose
+// nodes have up to 8 children. An object has at most 15 words, so a node is two of them: the keys,
+// and what stands beside the keys.
 enum { ORDER = 8, KEYS = ORDER - 1, HALF = ORDER / 2, LEAST = HALF - 1 };
 
 struct Node { int64_t n; int64_t key[KEYS]; struct Rest *rest; };
@@ -30,7 +30,7 @@ int64_t place_of(struct Node *node, int64_t key) {
     return i;
 }
 
-int64_t holds(struct Node *node, int64_t i, int64_t key) { return i < node->n && node->key[i] == key; }
+int64_t holds(struct Node *of, int64_t i, int64_t key) { return i < of->n && of->key[i] == key; }
 
 // Puts a key and its value at a place of a node that isn't full.
 void put_at(struct Node *node, int64_t p, int64_t key, int64_t value) {
@@ -162,7 +162,9 @@ void merge(struct Node *parent, int64_t p) {
     struct Node *right = child(parent, p + 1);
     put_at(left, left->n, parent->key[p], parent->rest->value[p]);
     for (int64_t i = 0; i <= right->n; i++) { left->rest->slot[left->n + i] = child(right, i); }
-    for (int64_t i = 0; i < right->n; i++) { put_at(left, left->n, right->key[i], right->rest->value[i]); }
+    for (int64_t i = 0; i < right->n; i++) {
+        put_at(left, left->n, right->key[i], right->rest->value[i]);
+    }
     take_at(parent, p);
     for (int64_t i = p + 1; i <= parent->n; i++) { parent->rest->slot[i] = child(parent, i + 1); }
     parent->rest->slot[parent->n + 1] = NULL;
@@ -219,7 +221,7 @@ tx abort int64_t del(int64_t key) {
     return 1;
 }
 
-// The number of keys below a node that lie between two others; it ends as a trap where the tree is wrong.
+// The number of keys below a node that lie between two others; a trap where the tree is wrong.
 int64_t count(struct Node *node, int64_t low, int64_t high, int64_t depth) {
     int64_t n = node->n;
     int64_t below = child(node, 0) != NULL;

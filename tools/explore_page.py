@@ -1,8 +1,15 @@
 """The pages that tools/explore writes: each is one file that needs nothing else."""
 
 import html
+import itertools
 import json
 import os
+
+import explore_events
+
+# A call of more events has its equal columns together at first.
+MOST_COLUMNS = 60
+NAMES = "124px"
 
 KINDS = {"before": "the pool from before the call", "after": "the pool after the call",
          "other": "another pool"}
@@ -28,10 +35,25 @@ h1 code { font-size: 24px } p { margin: 6px 0; max-width: 78ch }
 .scroll { overflow-x: auto; padding-bottom: 6px }
 .grid { display: grid; gap: 2px; align-items: stretch; min-width: max-content }
 .name { font-size: 14px; color: var(--grey); padding-right: 10px; text-align: right;
-        align-self: center; white-space: nowrap }
-.number { font-size: 12px; color: var(--grey); text-align: center }
-.span { font-size: 13px; text-align: center; overflow: hidden; white-space: nowrap;
+        display: flex; align-items: center; justify-content: flex-end; white-space: nowrap;
+        position: sticky; left: 0; z-index: 1;
+        background: #fbfbf9; grid-column: 1 }
+.number { font-size: 12px; color: var(--grey); text-align: center; white-space: nowrap }
+.time { gap: 2px 0 } .time > div + div { margin-right: 2px }
+.time.folded { grid-template-columns: var(--folded) !important }
+.folded .inner { display: none } .folded .number[data-to]::after { content: " to " attr(data-to) }
+.span { font-size: 13px; text-align: center; overflow: clip; white-space: nowrap;
         border-radius: 3px; padding: 1px 0 }
+.span span { position: sticky; left: 134px; right: 8px; display: inline-block }
+.event { font-size: 12px; text-align: center; border-radius: 3px; white-space: nowrap }
+.event.store { background: #f0e3c8 } .event.flush { background: #d9e6dc }
+.event.fence { background: #dfd8ea }
+.label { writing-mode: vertical-rl; transform: rotate(180deg); font-size: 11px; max-height: 190px;
+         overflow: hidden; text-overflow: ellipsis; white-space: nowrap; color: #444;
+         justify-self: center }
+.folded .label[data-sum], .folded .event[data-sum] { font-size: 0 }
+.folded .event[data-sum] { background: #e8e8e2 }
+.folded .label[data-sum]::after { content: attr(data-sum); font-size: 11px }
 .cell { min-width: 18px; height: 26px; font-size: 13px; display: flex; align-items: center;
         justify-content: center; cursor: pointer; border-radius: 3px;
         border: 2px solid transparent; color: #222 }
@@ -91,12 +113,43 @@ function choose(cell) {
   document.getElementById('script').textContent =
     [...before, ...cut.steps.map(it => it[0]), 'last', 'show'].join('\\n');
 }
+const time = document.querySelector('.time');
+function fold(is_folded) {
+  time.classList.toggle('folded', is_folded);
+  document.querySelectorAll('.lead').forEach(cell => {
+    cell.dataset.own ??= cell.style.gridColumn;
+    cell.style.gridColumn = is_folded ? cell.dataset.column : cell.dataset.own;
+  });
+}
+const box = document.getElementById('fold');
+box.addEventListener('change', () => fold(box.checked));
+fold(box.checked);
 cells.forEach(cell => {
   cell.addEventListener('click', () => choose(cell));
   cell.addEventListener('keydown', event => { if (event.key === 'Enter') choose(cell); });
 });
 choose(cells.find(it => it.dataset.first) || cells[0]);
 """
+
+
+def filled(letters, numbers):
+    """Puts for what is missing its neighbour to the left, or else to the right, in its section."""
+    found = list(letters)
+    for order in (range(len(found)), reversed(range(len(found)))):
+        known = {}
+        for at in order:
+            if found[at] is None:
+                found[at] = known.get(numbers[at])
+            else:
+                known[numbers[at]] = found[at]
+    return found
+
+
+def runs_of(keys):
+    """Equal neighbours together: each with its first and its last place."""
+    for key, run in itertools.groupby(enumerate(keys), key=lambda it: it[1]):
+        at = [place for place, _ in run]
+        yield key, at[0], at[-1]
 
 
 def code(words):
@@ -120,10 +173,11 @@ def steps_of(cut):
                     [cut.commands[3], f"stopped {cut.phase}"], [cut.choice, cut.outcome.answer]]
 
 
-def told_of(cut):
+def told_of(cut, named):
     """What a cut does, in a sentence."""
     at = cut.first or cut
-    told = f"The power goes off at event {at.event} of the call, and leaves "
+    event = f" ({named[at.event].told()})" if named else ""
+    told = f"The power goes off at event {at.event} of the call{event}, and leaves "
     told += f"{choice_name(at.choice)}."
     if cut.first:
         told += f" It goes off again at event {cut.event} of the recovery, and leaves "
@@ -149,9 +203,9 @@ def pool_of(outcome, before):
 
 def spans(name, runs, titles):
     boxes = "".join(f'<div class="span {what}" style="grid-column: {first + 2} / {last + 3}" '
-                    f'title="{html.escape(titles.get(what, what))}">{what}</div>'
+                    f'title="{html.escape(titles.get(what, what))}"><span>{what}</span></div>'
                     for what, first, last in runs)
-    return f'<div class="name" style="grid-column: 1">{name}</div>{boxes}'
+    return f'<div class="name">{name}</div>{boxes}'
 
 
 def cell(at, cut, letter, kind, column, more=""):
@@ -187,22 +241,80 @@ class Page:
                     rows["oldest" if cut.choice == "power old" else "newest"].append(cut)
         return rows
 
+    def folds(self):
+        """Neighbours with the same letters, part and phase: each with its first and last event.
+        Where an event has no drawn cut, that is as its neighbours are; events that were left out
+        belong to them if both sides are alike."""
+        ends = {first for runs in (self.explored.parts(), self.explored.phases())
+                for _, first, _ in runs}
+        numbers = list(itertools.accumulate(it in ends for it in range(self.explored.events)))
+        rows = [filled([letters.get(it) for it in range(self.explored.events)], numbers)
+                for letters in ({it.event: self.letters[id(it)] for it in cuts}
+                                for cuts in self.by_choice().values())]
+        was_cut = {it.event for it in self.explored.cuts}
+        keys = [key if at in was_cut else None for at, key in enumerate(zip(numbers, *rows))]
+        before = list(itertools.accumulate(keys, lambda left, it: it or left))
+        after = list(itertools.accumulate(keys[::-1], lambda right, it: it or right))[::-1]
+        keys = [key or (left if left == right else (number, "left out"))
+                for key, left, right, number in zip(keys, before, after, numbers)]
+        return [(first, last) for _, first, last in runs_of(keys)]
+
+    def row(self, name, cuts, folds):
+        """A row of cells. Of the cells of a folded column the first one stands for all."""
+        first_of = {event: first for first, last in folds for event in range(first, last + 1)}
+        cells, seen = [], set()
+        for cut in cuts:
+            first = first_of[cut.event]
+            more = " inner" if first in seen else f' lead" data-column="{first + 2}'
+            seen.add(first)
+            cells.append(self.cell(cut, cut.event + 2, more))
+        return f'<div class="name">{name}</div>' + "".join(cells)
+
+    def column(self, event, last):
+        """The number of an event, what it is, and its name; of a folded column for all its events
+        to the last one. Without a last one it is inside of such a column."""
+        inner = "" if last is not None else " inner"
+        many = last is not None and last > event
+        to = f' data-to="{last}"' if many else ""
+        at = f'style="grid-column: {event + 2}"'
+        parts = [f'<div class="number{inner}"{to} {at}>{event}</div>']
+        if self.explored.named:
+            named = self.explored.named[event]
+            told = html.escape(named.told())
+            counts = explore_events.sums(self.explored.named[event:(last or event) + 1])
+            both = ", ".join(explore_events.many(count, kind)
+                             for kind, count in counts.items() if count and kind != "record")
+            total = f' data-sum="{both}"' if many else ""
+            parts.append(f'<div class="event {named.kind}{inner}"{total} {at} title="{told}">'
+                         f'{dict(store="S", flush="f", fence="#")[named.kind]}</div>')
+            parts.append(f'<div class="label{inner}"{total} {at} title="{told}">'
+                         f'{html.escape(named.short())}</div>')
+        return parts
+
     def time_line(self):
-        numbers = "".join(f'<div class="number">{event}</div>'
-                          for event in range(self.explored.events))
-        rows = "".join(f'<div class="name" style="grid-column: 1">{name}</div>'
-                       + "".join(self.cell(cut, cut.event + 2) for cut in cuts)
-                       for name, cuts in self.by_choice().items())
-        return (f'<div class="scroll"><div class="grid" style="grid-template-columns: 110px '
-                f'repeat({self.explored.events}, minmax(18px, 1fr))">'
-                f'<div class="name">stop</div>{numbers}'
+        events, folds = self.explored.events, self.folds()
+        lasts = dict(folds)
+        columns = [self.column(event, lasts.get(event)) for event in range(events)]
+        names = ["stop", "event", ""][:len(columns[0])]
+        heads = "".join(f'<div class="name">{name}</div>' + "".join(it[row] for it in columns)
+                        for row, name in enumerate(names))
+        rows = "".join(self.row(name, cuts, folds) for name, cuts in self.by_choice().items())
+        widths = f"{NAMES} " + " ".join(
+            "0" if it not in lasts else "minmax(64px, auto)" if lasts[it] > it else
+            "minmax(20px, auto)" for it in range(events))
+        folded = " folded" if events > MOST_COLUMNS and len(folds) < events else ""
+        return (f'<p class="small"><label><input type="checkbox" id="fold"'
+                f'{" checked" if folded else ""}> equal columns together</label>; S a store, '
+                f'f a flush, # a fence</p><div class="scroll"><div class="grid time{folded}" '
+                f'style="--folded: {widths}; grid-template-columns: {NAMES} '
+                f'repeat({events}, minmax(20px, 1fr))">' + heads
                 + spans("part of the call", self.explored.parts(), {})
                 + spans("stopped", self.explored.phases(), PHASES) + rows + "</div></div>")
 
     def told_of_images(self):
         """How many images the cuts leave, and what their rows show."""
         images, left_out = self.explored.images(), self.explored.left_out
-        of_all = sum(it.recovery_events for it in images)
+        of_all = sum(it.recovery_events or 0 for it in images)
         left = f" Of their {of_all} events {left_out} are left out." if left_out else ""
         return (f'<p class="small">The cuts of the call leave {len(images)} different images. For '
                 "each of them a column is an event of its recovery at which the power went off "
@@ -239,8 +351,8 @@ class Page:
             again = sum(cut.first is not None for cut in cuts)
             cards.append(f'<div class="card" id="outcome-{letter}"><h3>'
                          f'<b class="{kind}">{letter}</b>{html.escape(outcome.answer)}</h3>'
-                         f'<div class="small">{KINDS[kind]}; '
-                         f'{len(cuts) - again} cuts of the call, {again} of recoveries</div>'
+                         f'<div class="small">{KINDS[kind]}; cuts of the call: '
+                         f'{len(cuts) - again}, of recoveries: {again}</div>'
                          f'{pool_of(outcome, self.explored.pool_before)}</div>')
         return "".join(cards)
 
@@ -258,13 +370,28 @@ class Page:
                        + told.get(at, "") + "</span>" for at, line in enumerate(lines, 1))
 
     def data(self):
-        return [{"letter": self.letters[id(cut)], "told": told_of(cut), "steps": steps_of(cut)}
-                for cut in self.cuts]
+        return [{"letter": self.letters[id(cut)], "told": told_of(cut, self.explored.named),
+                 "steps": steps_of(cut)} for cut in self.cuts]
 
 
 def embedded(name, value):
     text = json.dumps(value).replace("<", "\\u003c")
     return f'<script type="application/json" id="{name}">{text}</script>'
+
+
+def summed(explored):
+    """How many events there are of each kind, where that is known."""
+    if not explored.named:
+        return "stores, flushes and fences"
+    counts = explore_events.sums(explored.named)
+    records = f", of which {counts.pop('record') * 5} are of records"
+    names = {"store": "stores", "flush": "flushes", "fence": "fences"}
+    return ", ".join(f"{count} {names[kind]}" for kind, count in counts.items()) + records
+
+
+def told_left_out(explored):
+    left = explored.events - len({it.event for it in explored.cuts})
+    return f" For want of time {left} events were left out." if left else ""
 
 
 def page_of(explored, listing):
@@ -287,9 +414,9 @@ def page_of(explored, listing):
 <h1>{code(explored.call)}, cut everywhere</h1>
 <p class="small">{html.escape(explored.cnvm.program)}; without a cut the answer is
 {code(explored.value)}.</p>
-<p>The call has {explored.events} events: stores, flushes and fences. The power went off at each of
-them, each cache line kept its oldest version, its newest one, or a drawn one, and the pool was
-recovered. The recoveries were cut in the same way.</p>
+<p>The call has {explored.events} events: {summed(explored)}. The power went off at each of them,
+each cache line kept its oldest version, its newest one, or a drawn one, and the pool was recovered.
+The recoveries were cut in the same way.{told_left_out(explored)}</p>
 <table class="count"><tr><th></th><th>cuts</th>{key}</tr>
 {row("of the call", plain)}{row("of its recoveries", again)}</table>
 <h2>The call</h2>
