@@ -39,8 +39,8 @@ class Layout:
 
     def place(self, heap_word):
         """The slot of a heap word and its number there; slot 0 is the root."""
-        behind = heap_word - WORDS * self.root_lines
-        return (0, heap_word) if behind < 0 else (behind // 16 + 1, behind % 16)
+        past_root = heap_word - WORDS * self.root_lines
+        return (0, heap_word) if past_root < 0 else (past_root // 16 + 1, past_root % 16)
 
     def heap_name(self, heap_word):
         """A heap word in words, and its target in the listing, without the index of an array."""
