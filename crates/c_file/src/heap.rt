@@ -48,9 +48,18 @@ static inline void cn_put(struct cn_pool *p, uint64_t x, uint64_t value) {
     else cn_slot_taken(p, (x - CN_FIRST) / CN_SLOT + 1);
 }
 
-/* appends a record of a heap word, five events; 7 if the log is full */
+/* The place of a heap word: where it is if this run has a record of it, else where it goes. */
+static inline struct cn_place *cn_place_of(struct cn_pool *p, uint64_t x) {
+    uint64_t i = x * UINT64_C(0x9E3779B97F4A7C15) >> (64 - CN_PLACE_BITS);
+    while (p->places[i].run == p->run && p->places[i].word != x) i = (i + 1) % CN_PLACES;
+    return &p->places[i];
+}
+
+/* Appends a record of a heap word, five events, if this run has none; 7 if the log is full. */
 static inline uint64_t cn_log(struct cn_pool *p, uint64_t x) {
+    struct cn_place *place = cn_place_of(p, x);
     uint64_t line = CN_RECORD + p->records;
+    if (place->run == p->run) return 0;
     if (p->records == CN_LOG) return CNVM_LOGFULL;
     cn_store(p, 8 * line, x);
     cn_store(p, 8 * line + 1, p->heap[x]);
@@ -58,12 +67,8 @@ static inline uint64_t cn_log(struct cn_pool *p, uint64_t x) {
     cn_flush(p, line);
     cn_fence(p);
     p->records++;
-    p->has_record[x / 8] |= (unsigned char)(1u << x % 8);
+    *place = (struct cn_place){x, p->run};
     return 0;
-}
-
-static inline int cn_has_record(const struct cn_pool *p, uint64_t x) {
-    return p->has_record[x / 8] >> x % 8 & 1;
 }
 
 /* LOAD */
@@ -76,11 +81,11 @@ static inline uint64_t cn_log_at(struct cn_pool *p, uint64_t x) {
     return x < CN_HEAP ? cn_log(p, x) : 0;
 }
 
-/* STORE; its line is dirty from now on. In a call that rolls back, the word gets a record first if
-   it has none: 7 if the log is full. */
+/* STORE; its line is dirty from now on. In a call that rolls back it is a LOG first: 7 if the log
+   is full. */
 static inline uint64_t cn_store_at(struct cn_pool *p, uint64_t x, uint64_t value) {
     if (x >= CN_HEAP) return 0;
-    if (p->rolls_back && !cn_has_record(p, x) && cn_log(p, x) != 0) return CNVM_LOGFULL;
+    if (p->rolls_back && cn_log(p, x) != 0) return CNVM_LOGFULL;
     cn_put(p, x, value);
     if (p->is_dirty[x / 8]) return 0;
     p->is_dirty[x / 8] = 1;

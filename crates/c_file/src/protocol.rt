@@ -56,13 +56,13 @@ static void cn_begin(struct cn_pool *p, uint64_t tx) {
     p->open = 1;
     p->trap = 0;
     p->records = 0;
+    p->run++;
     p->rolls_back = cn_rolls_back[tx - 1];
 }
 
-/* Forgets what is dirty and which words have records. */
+/* Forgets what is dirty. */
 static void cn_end(struct cn_pool *p) {
     while (p->dirty_from < p->dirty_to) p->is_dirty[p->dirty[p->dirty_from++]] = 0;
-    for (uint64_t i = 0; i < p->records; i++) p->has_record[p->words[8 * (CN_RECORD + i)] / 8] = 0;
 }
 
 /* Runs a sealed call and ends it. */

@@ -29,11 +29,16 @@ enum {
     CN_HEAP = 8 * CN_HEAP_LINES,     /* the number of heap words */
     CN_LINES = CN_HEAP_LINE + CN_HEAP_LINES,
     CN_BYTES = 64 * CN_LINES,
-    CN_GROUPS = CN_SLOTS / 64 + 1    /* of 64 slots each */
+    CN_GROUPS = CN_SLOTS / 64 + 1,   /* of 64 slots each */
+    CN_PLACE_BITS = 64 - __builtin_clzll(2 * CN_LOG - 1),
+    CN_PLACES = 1 << CN_PLACE_BITS   /* the least power of two with two places for each record */
 };
 #define CN_STACK (UINT64_C(256) * (16 * CN_REGISTERS + 512))
 #define CN_MAGIC UINT64_C(5498700876356144707)
 #define CN_NUMBERS (UINT64_C(1) << 62)
+
+/* A place of the set of words that have records: a heap word, and the run that put it there. */
+struct cn_place { uint64_t word, run; };
 
 /* A pool that is open. All but its words is volatile, and made anew at each opening. */
 struct cn_pool {
@@ -46,11 +51,12 @@ struct cn_pool {
     /* of the call that runs */
     uint64_t ticks, open, trap;
     uint64_t records;                /* in the log */
+    uint64_t run;                    /* its number since the pool was opened, from 1 on */
     int rolls_back;
     uint64_t dirty_from, dirty_to;   /* the places in use of this list of heap lines, which are */
     uint32_t dirty[CN_HEAP_LINES];   /* stored to and not flushed, the first store first */
     unsigned char is_dirty[CN_HEAP_LINES];
-    unsigned char has_record[CN_HEAP / 8]; /* a bit for each heap word */
+    struct cn_place places[CN_PLACES]; /* what an earlier run put there counts as nothing */
     /* free slots: a bit for each slot, for 64 of them, and for 4096 of them */
     uint64_t free_slots[CN_GROUPS], free_groups[CN_GROUPS / 64 + 1], free_blocks;
 };

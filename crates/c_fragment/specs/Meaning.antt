@@ -4,26 +4,27 @@
 --
 -- What a function of the runtime does to the pool's words is given here, and so is its result;
 -- that its own text does so isn't said here.
-use Rattle.std.specs.Prelude.{ℕ, ◌+◌, ◌-◌, ◌*◌, ◌%◌, ◌^◌, ◌==◌, List, [], ◌∷◌, length, map, pos}
+use Rattle.std.specs.Prelude.{ℕ, ◌+◌, ◌-◌, ◌*◌, ◌%◌, ◌^◌, ◌==◌, List, [], ◌∷◌, ◌++◌, length, map, pos}
 use Rattle.std.specs.Prelude.{slice_get, slice_index_or, Option, Some, None, Bool, not, ◌&&◌}
 use Rattle.std.specs.Prelude.{if◌then◌else◌, nat_lt, bit_and, bit_or, bit_xor}
 use Rattle.std.specs.Int.{w64, cast_signed}
 use Rattle.std.specs.List.{list_all}
-use Rattle.nvm_base.specs.Listed.{is_listed}
 use Rattle.nvm_base.specs.Operations.{unsigned}
 use Rattle.nvm_base.specs.Applied.{applied}
 use Rattle.nvm_base.specs.declared.op.BinOp.TheVariants as operations
+use Rattle.pool_layout.specs.declared.limits.Sizes.{Sizes}
 use Rattle.pool_layout.specs.Sizes.{heap_words}
 use Rattle.pm_machine.specs.Find.{least}
+use Rattle.pm_machine.specs.Logging.{unlisted, rolled, has_room}
 use Rattle.c_fragment.specs.Statement.{Operator, Plus, Minus, Times, Both, Either, OneOf, Equal}
 use Rattle.c_fragment.specs.Statement.{Unequal, Below, Quotient, Remainder, ShiftLeft, ShiftRight}
 use Rattle.c_fragment.specs.Statement.{Less, LessOrEqual, Statement, SetWord, SetCopy, SetOperation}
 use Rattle.c_fragment.specs.Statement.{Goto, GotoIfZero, SetLoad, StoreAt, SetFree, LogAt}
 use Rattle.c_fragment.specs.Statement.{FlushFirst, FenceAll, SetCall, TakeTick, TrapWith}
 use Rattle.c_fragment.specs.Statement.{ReturnWith, CFunction}
-use Rattle.c_fragment.specs.State.{RunSetting, Waiting, CState, PoolStep, Stored, Recorded, Flushed}
+use Rattle.c_fragment.specs.State.{Waiting, CState, PoolStep, Stored, Recorded, Flushed}
 use Rattle.c_fragment.specs.State.{Fenced, state_at, state_past, with_register, with_store}
-use Rattle.c_fragment.specs.State.{with_logged, with_tick, with_flushed, variables_of, with_callee}
+use Rattle.c_fragment.specs.State.{with_noted, with_tick, with_flushed, variables_of, with_callee}
 use Rattle.c_fragment.specs.State.{with_result}
 
 -- A statement has the runtime do these steps and goes on, or it ends the run: with a value of the
@@ -71,33 +72,33 @@ abbrev pub address_of : (a o : ℕ) → ℕ
 address_of a o = (a + o) % 2 ^ 64
 
 -- cn_load_at
-abbrev pub word_loaded : RunSetting → CState → ℕ → ℕ
-word_loaded z c x = if nat_lt x (heap_words z.sizes) then c.heap x else 0
+abbrev pub word_loaded : Sizes → CState → ℕ → ℕ
+word_loaded z c x = if nat_lt x (heap_words z) then c.heap x else 0
 
 -- cn_find: the least free slot, or 0
-abbrev pub slot_found : RunSetting → CState → ℕ
-slot_found z c = least z.sizes (λ w. pos (c.heap w))
+abbrev pub slot_found : Sizes → CState → ℕ
+slot_found z c = least z (λ w. pos (c.heap w))
 
--- cn_log, and what is done if there was room for the record
-abbrev pub word_recorded : RunSetting → CState → ℕ → (CState → CStep) → CStep
-word_recorded z c x more = if nat_lt (length c.logged) z.sizes.records then more (with_logged c x)
-    else Traps 7
+-- cn_log: the record of a word, if it takes one
+abbrev pub recorded : Option ℕ → List PoolStep
+recorded None = []
+recorded (Some w) = Recorded w ∷ []
 
--- a call that rolls back stores to a word without a record
-abbrev pub lacks_record : RunSetting → CState → ℕ → Bool
-lacks_record z c x = z.rolls_back && not (is_listed x c.logged)
+-- These steps lead to this state, after the record. A log without room for it ends the run.
+abbrev pub after_record : Sizes → Option ℕ → List PoolStep → CState → CStep
+after_record z w ps c = if has_room z.records c.logging w
+    then Goes (recorded w ++ ps) (with_noted c w) else Traps 7
 
--- cn_store_at
-abbrev pub word_stored : RunSetting → CState → (x v : ℕ) → CStep
-word_stored z c x v = if nat_lt x (heap_words z.sizes)
-    then (if lacks_record z c x
-    then word_recorded z c x (λ d. Goes (Recorded x ∷ Stored x v ∷ []) (with_store d x v))
-    else Goes (Stored x v ∷ []) (with_store c x v)) else Goes [] (state_past c)
+-- cn_store_at: in a call that rolls back it asks for a record
+abbrev pub word_stored : Sizes → CState → (x v : ℕ) → CStep
+word_stored z c x v = if nat_lt x (heap_words z)
+    then after_record z (unlisted c.logging.words (rolled c.logging.policy x)) (Stored x v ∷ [])
+    (with_store c x v) else Goes [] (state_past c)
 
 -- cn_log_at
-abbrev pub word_logged : RunSetting → CState → ℕ → CStep
-word_logged z c x = if nat_lt x (heap_words z.sizes)
-    then word_recorded z c x (λ d. Goes (Recorded x ∷ []) (state_past d))
+abbrev pub word_logged : Sizes → CState → ℕ → CStep
+word_logged z c x = if nat_lt x (heap_words z)
+    then after_record z (unlisted c.logging.words (Some x)) [] (state_past c)
     else Goes [] (state_past c)
 
 -- cn_flush_first, and the jump to t where there was a line
@@ -125,7 +126,7 @@ function_left c v [] = Returns v
 function_left c v (w ∷ ws) = Goes [] (with_result c v w ws)
 
 -- one statement of a function of n statements, in a file of functions
-abbrev pub c_does : RunSetting → List CFunction → (n : ℕ) → CState → Statement → CStep
+abbrev pub c_does : Sizes → List CFunction → (n : ℕ) → CState → Statement → CStep
 c_does z us n c (SetWord r v) = assign c r v
 c_does z us n c (SetCopy r a) = using_value (slice_get c.registers a) (λ x. assign c r x)
 c_does z us n c (SetOperation op r a b) =
@@ -151,15 +152,15 @@ c_does z us n c (SetCall r f args) = call_done us c r f args
 c_does z us n c (ReturnWith a) =
     using_value (slice_get c.registers a) (λ v. function_left c v c.waiting)
 
-abbrev pub statement_done : RunSetting → List CFunction → (n : ℕ) → CState → Option Statement
+abbrev pub statement_done : Sizes → List CFunction → (n : ℕ) → CState → Option Statement
     → CStep
 statement_done z us n c None = Undefined
 statement_done z us n c (Some s) = c_does z us n c s
 
-abbrev pub done_in : RunSetting → List CFunction → CState → Option CFunction → CStep
+abbrev pub done_in : Sizes → List CFunction → CState → Option CFunction → CStep
 done_in z us c None = Undefined
 done_in z us c (Some u) = statement_done z us (length u.code) c (slice_get u.code c.place)
 
 -- one step of a file of functions
-abbrev pub c_step : RunSetting → List CFunction → CState → CStep
+abbrev pub c_step : Sizes → List CFunction → CState → CStep
 c_step z us c = done_in z us c (slice_get us c.function)

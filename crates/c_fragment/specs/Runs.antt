@@ -1,8 +1,11 @@
 -- A run of a file of functions: what the runtime does to the pool, in order, and how it ends.
 use Rattle.std.specs.Prelude.{ℕ, zero, suc, ◌==◌, List, [], ◌++◌, length, slice_get, Option, Some}
 use Rattle.std.specs.Prelude.{None, if◌then◌else◌}
+use Rattle.pool_layout.specs.declared.limits.Sizes.{Sizes}
+use Rattle.pm_machine.specs.declared.records.Policy.{Policy}
+use Rattle.pm_machine.specs.Logging.{blank}
 use Rattle.c_fragment.specs.Statement.{CFunction}
-use Rattle.c_fragment.specs.State.{RunSetting, CState, PoolStep, variables_of}
+use Rattle.c_fragment.specs.State.{CState, PoolStep, variables_of}
 use Rattle.c_fragment.specs.Meaning.{CStep, Goes, Returns, Traps, Undefined, c_step}
 
 -- it has not ended within its number of steps, it returned, it trapped, or C gives it no meaning
@@ -26,29 +29,30 @@ c_follow rest (Traps k) = Trapped k []
 c_follow rest Undefined = HasNoMeaning
 
 -- the run of at most k statements
-abbrev pub c_run : RunSetting → List CFunction → (k : ℕ) → CState → CRun
+abbrev pub c_run : Sizes → List CFunction → (k : ℕ) → CState → CRun
 c_run z us zero c = GoesOn
 c_run z us (suc k) c = c_follow (λ d. c_run z us k d) (c_step z us c)
 
 -- function f begins on this heap, with an empty log and no dirty line
-abbrev pub c_start : RunSetting → (f : ℕ) → List ℕ → (ℕ → ℕ) → CFunction → CState
-c_start z f args heap u = record {
+abbrev pub c_start : Policy → Sizes → (f : ℕ) → List ℕ → (ℕ → ℕ) → CFunction → CState
+c_start p z f args heap u = record {
   function = f;
   place = 0;
   registers = variables_of u args;
   waiting = [];
-  ticks = z.sizes.ticks;
+  ticks = z.ticks;
   dirty = [];
-  logged = [];
+  logging = blank p;
   heap = heap;
 }
 
-abbrev pub called_in : RunSetting → List CFunction → (k f : ℕ) → List ℕ → (ℕ → ℕ)
+abbrev pub called_in : Policy → Sizes → List CFunction → (k f : ℕ) → List ℕ → (ℕ → ℕ)
     → Option CFunction → CRun
-called_in z us k f args heap None = HasNoMeaning
-called_in z us k f args heap (Some u) = if u.parameters == length args
-    then c_run z us k (c_start z f args heap u) else HasNoMeaning
+called_in p z us k f args heap None = HasNoMeaning
+called_in p z us k f args heap (Some u) = if u.parameters == length args
+    then c_run z us k (c_start p z f args heap u) else HasNoMeaning
 
--- the run of function f that the runtime calls with these arguments, of at most k statements
-abbrev pub c_call : RunSetting → List CFunction → (k f : ℕ) → List ℕ → (ℕ → ℕ) → CRun
-c_call z us k f args heap = called_in z us k f args heap (slice_get us f)
+-- The run of function f that the runtime calls with these arguments, of at most k statements. The
+-- policy says whether a trap rolls the call back.
+abbrev pub c_call : Policy → Sizes → List CFunction → (k f : ℕ) → List ℕ → (ℕ → ℕ) → CRun
+c_call p z us k f args heap = called_in p z us k f args heap (slice_get us f)

@@ -1,14 +1,9 @@
 -- The state of the fragment's run. All values are numbers below 2^64, as C's uint64_t.
-use Rattle.std.specs.Prelude.{ℕ, ◌+◌, ◌-◌, ◌/◌, ◌==◌, List, ◌∷◌, ◌++◌, replicate, Bool}
+use Rattle.std.specs.Prelude.{ℕ, ◌+◌, ◌-◌, ◌/◌, ◌==◌, List, ◌∷◌, ◌++◌, replicate, Option}
 use Rattle.std.specs.Prelude.{if◌then◌else◌, nat_eq, slice_set}
 use Rattle.indexmap.specs.IndexSet.{insert_key}
-use Rattle.pool_layout.specs.declared.limits.Sizes.{Sizes}
+use Rattle.pm_machine.specs.Logging.{Logging, noted}
 use Rattle.c_fragment.specs.Statement.{CFunction}
-
--- the sizes that the runtime's text has, and whether a trap rolls the call back
-pub record RunSetting : Type 0 where
-  pub sizes : Sizes
-  pub rolls_back : Bool
 
 -- a function that waits for the result of a call, which goes to register `to`
 pub record Waiting : Type 0 where
@@ -18,8 +13,8 @@ pub record Waiting : Type 0 where
   pub registers : List ℕ
 
 -- the open function, the label of its next statement, its variables, and the functions that wait,
--- the innermost first; the ticks left, the lines stored to and not yet flushed, the heap words that
--- have records, the newest first, and all heap words
+-- the innermost first; the ticks left, the lines stored to and not yet flushed, what the runtime
+-- knows of the log, and all heap words
 pub record CState : Type 0 where
   pub function : ℕ
   pub place : ℕ
@@ -27,7 +22,7 @@ pub record CState : Type 0 where
   pub waiting : List Waiting
   pub ticks : ℕ
   pub dirty : List ℕ
-  pub logged : List ℕ
+  pub logging : Logging
   pub heap : ℕ → ℕ
 
 -- what the runtime does to the pool
@@ -45,7 +40,7 @@ state_at c p = record {
   waiting = c.waiting;
   ticks = c.ticks;
   dirty = c.dirty;
-  logged = c.logged;
+  logging = c.logging;
   heap = c.heap;
 }
 
@@ -60,7 +55,7 @@ with_register c r v = record {
   waiting = c.waiting;
   ticks = c.ticks;
   dirty = c.dirty;
-  logged = c.logged;
+  logging = c.logging;
   heap = c.heap;
 }
 
@@ -72,20 +67,20 @@ with_store c w v = record {
   waiting = c.waiting;
   ticks = c.ticks;
   dirty = insert_key nat_eq c.dirty (w / 8);
-  logged = c.logged;
+  logging = c.logging;
   heap = λ u. if u == w then v else c.heap u;
 }
 
--- one record more; the place stays
-abbrev pub with_logged : CState → ℕ → CState
-with_logged c w = record {
+-- one record more, if one is taken; the place stays
+abbrev pub with_noted : CState → Option ℕ → CState
+with_noted c w = record {
   function = c.function;
   place = c.place;
   registers = c.registers;
   waiting = c.waiting;
   ticks = c.ticks;
   dirty = c.dirty;
-  logged = w ∷ c.logged;
+  logging = noted c.logging w;
   heap = c.heap;
 }
 
@@ -97,7 +92,7 @@ with_tick c = record {
   waiting = c.waiting;
   ticks = c.ticks - 1;
   dirty = c.dirty;
-  logged = c.logged;
+  logging = c.logging;
   heap = c.heap;
 }
 
@@ -109,7 +104,7 @@ with_flushed c t ls = record {
   waiting = c.waiting;
   ticks = c.ticks;
   dirty = ls;
-  logged = c.logged;
+  logging = c.logging;
   heap = c.heap;
 }
 
@@ -131,7 +126,7 @@ with_callee c r f variables = record {
   } ∷ c.waiting;
   ticks = c.ticks;
   dirty = c.dirty;
-  logged = c.logged;
+  logging = c.logging;
   heap = c.heap;
 }
 
@@ -144,6 +139,6 @@ with_result c v w ws = record {
   waiting = ws;
   ticks = c.ticks;
   dirty = c.dirty;
-  logged = c.logged;
+  logging = c.logging;
   heap = c.heap;
 }

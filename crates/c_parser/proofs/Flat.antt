@@ -1,4 +1,4 @@
--- An expression as unaries joined by operators, whatever their levels, with both sides behind a
+-- An expression as unaries joined by operators, whatever their levels, with both sides after a
 -- `?`, and its tree.
 use Rattle.std.proofs.Common.{ℕ, zero, suc, ◌+◌, ◌≡◌, ◌≤◌, ◌⊎◌, inl, inr, List, Some, None, Bool}
 use Rattle.std.proofs.Common.{true, false, nat_eq, refl, sym, ap, ◌∙◌, subst, arith, if◌then◌else◌}

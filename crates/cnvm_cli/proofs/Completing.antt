@@ -407,7 +407,8 @@ served_kept (Err start.NoMemory) result left left' program w v w' d d' k k' has 
 serve_kept : (asked : Asked) (told : Sources) (result : Status) (w w' : Option (List ℕ))
     (d d' : Device) (k k' : ℕ) → HasProgram asked told.program → HasLines told.script
     → MemoryEnds asked told result w w' d d' k k' → IsRefusalStatus result → ⊥
-serve_kept asked told result w w' d d' k k' program has (inl (why, refuses, reported, device, steps)) is =
+serve_kept asked told result w w' d d' k k' program has
+    (inl (why, refuses, reported, device, steps)) is =
     quiet_kept why result w w' (program_quiet asked told.program program why refuses)
     reported is
 serve_kept asked told result w w' d d' k k' program has

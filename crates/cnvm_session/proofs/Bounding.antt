@@ -1,6 +1,6 @@
 -- The most steps that a command takes.
 use Rattle.std.proofs.Common.{◌≡◌, ◌≤◌, ℕ, zero, suc, ◌+◌, Bool, true, false, ◌==◌}
-use Rattle.std.proofs.Common.{List, [], ◌∷◌, Option, Some, None, length, slice_get, ℤ, refl, arith}
+use Rattle.std.proofs.Common.{List, [], ◌∷◌, Option, Some, None, length, slice_get, ℤ, refl, subst, arith}
 use Rattle.std.specs.List.{list_any}
 use Rattle.std.specs.Option.{option_map_or}
 use Rattle.std.proofs.lemmas.Bool.{or_left, or_right, and_parts}
@@ -8,7 +8,10 @@ use Rattle.cache_model.specs.Cache.{view}
 use Rattle.cache_model.specs.Collapse.{bad}
 use Rattle.cache_model.specs.declared.choice.Choice.{Choice}
 use Rattle.pmem.specs.Device.{Device, memory_of, powered}
+use Rattle.pm_machine.specs.declared.records.Policy.{Policy}
+use Rattle.pm_machine.specs.declared.records.Policy.TheVariants.{EndPool, RollBack}
 use Rattle.pm_machine.specs.declared.image.Image.{Image}
+use Rattle.tx_run.specs.Due.{most_steps}
 use Rattle.recovery.specs.Recovered.{tx_in}
 use Rattle.cnvm_script.specs.declared.command.Command.{Command}
 use Rattle.cnvm_script.specs.declared.command.Command.TheVariants as command
@@ -20,7 +23,7 @@ use Rattle.cnvm_session.specs.declared.mode.Mode.{Mode}
 use Rattle.cnvm_session.specs.declared.mode.Mode.TheVariants.{Ready, Down, Unusable}
 use Rattle.cnvm_session.specs.declared.answer.Answer.{Answer}
 use Rattle.cnvm_session.specs.declared.program.Program.{Program}
-use Rattle.cnvm_session.specs.Marks.{is_marked, rolls_back_of, has_marked, owes_marked}
+use Rattle.cnvm_session.specs.Marks.{is_marked, rolls_back_of, policy_of, has_marked, owes_marked}
 use Rattle.cnvm_session.specs.Outcomes.{RunsBy, RecoversBy}
 use Rattle.cnvm_session.specs.Commands.{Shows, Lasts, call_number, tx_parameters, CallsWith}
 use Rattle.cnvm_session.specs.Commands.{CallsTo, CallsNamed, Calls, fallen, Powers, Commanded}
@@ -39,11 +42,29 @@ pub bounded_more : (marks : Bool) (image : Image)
 bounded_more true image = omega arith
 bounded_more false image = omega arith
 
+-- a call's bound, and a recovery's
+pub call_within : (p : Policy) (image : Image) (k k1 : ℕ) → k1 ≤ k + most_steps p image
+    → k1 ≤ k + bounded_steps false image
+call_within RollBack image k k1 most = omega (arith, most)
+call_within EndPool image k k1 most = omega (arith, most)
+
+recovery_bound : (marks : Bool) (image : Image) (k k1 : ℕ)
+    → k1 ≤ k + image.parts.sizes.records + most_steps (policy_of marks) image
+    → k1 ≤ k + bounded_steps marks image
+recovery_bound true image k k1 most = omega (arith, most)
+recovery_bound false image k k1 most = omega (arith, most)
+
+pub recovery_within : (marks : Bool) (p : Policy) (image : Image) (k k1 : ℕ)
+    → p ≡ policy_of marks → k1 ≤ k + image.parts.sizes.records + most_steps p image
+    → k1 ≤ k + bounded_steps marks image
+recovery_within marks p image k k1 is most =
+    recovery_bound marks image k k1
+    (subst (λ (q : Policy). k1 ≤ k + image.parts.sizes.records + most_steps q image) is most)
+
 runs_most : (marks : Bool) (image : Image) (tx : ℕ) (args : List ℤ) (d : Device) (a : Answer)
     (n : Mode) (b : Device) (k k1 : ℕ) → RunsBy marks image tx args d a n b k k1
     → Few (bounded_steps false image) k k1
-runs_most true image tx args d a n b k k1 h = let most = h.called.most in omega (arith, most)
-runs_most false image tx args d a n b k k1 h = let most = h.called.most in omega (arith, most)
+runs_most marks image tx args d a n b k k1 h = call_within (policy_of marks) image k k1 h.called.most
 
 module _ (program : Program) (args : List ℤ) (d : Device) (a : Answer) (n : Mode) (b : Device)
     (k k1 : ℕ) where
@@ -74,8 +95,7 @@ call_most program name args (Unusable kind) d a n b k k1 h = none _ k k1 h.3
 
 pub recovers_most : (marks : Bool) (image : Image) (d : Device) (a : Answer) (n : Mode) (b : Device)
     (k k1 : ℕ) → RecoversBy marks image d a n b k k1 → Few (bounded_steps marks image) k k1
-recovers_most true image d a n b k k1 h = let most = h.redone.most in omega (arith, most)
-recovers_most false image d a n b k k1 h = let most = h.recovered.most in omega (arith, most)
+recovers_most marks image d a n b k k1 h = recovery_within marks (policy_of marks) image k k1 refl h.recovered.most
 
 power_most : (program : Program) (choice : Choice) (m : Mode) (d : Device) (a : Answer) (n : Mode)
     (b : Device) (k k1 : ℕ) (first pick : Option ℕ) →

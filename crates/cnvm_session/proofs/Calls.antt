@@ -3,66 +3,39 @@ use Rattle.std.proofs.Common.{ℕ, List, ℤ}
 use Rattle.pmem.specs.Device.{Device}
 use Rattle.pmem.specs.declared.answer.Phase.TheVariants as phase
 use Rattle.pmem.specs.declared.answer.Refusal.TheVariants as refusal
+use Rattle.pm_machine.specs.declared.records.Policy.{Policy}
 use Rattle.pm_machine.specs.declared.image.Image.{Image}
 use Rattle.tx_run.specs.Called.{Called, IsTxCalled}
 use Rattle.tx_run.specs.declared.answer.CallAnswer.{CallAnswer}
 use Rattle.tx_run.specs.declared.answer.CallAnswer.TheVariants as called
-use Rattle.abort_mode.specs.Answers.{AbortCalled, IsAbortCalled}
-use Rattle.abort_mode.specs.declared.answer.AbortAnswer.{AbortAnswer}
-use Rattle.abort_mode.specs.declared.answer.AbortAnswer.TheVariants as marked
-use Rattle.cnvm_session.specs.Outcomes.{answer_of_call, answer_of_marked_call}
+use Rattle.cnvm_session.specs.Outcomes.{answer_of_call}
 use Rattle.cnvm_session.proofs.Cases.{by_standing}
 use Rattle.cnvm_session.proofs.Faults.{Counts, counts_all, counts_part, counts_failed, counts_same}
 
-called_counts : (r : CallAnswer) (image : Image) (tx : ℕ) (args : List ℤ) (d b : Device) (k k1 : ℕ)
-    → Called r image tx args d b k k1 → Counts (answer_of_call r) d b
-called_counts (called.Done v l) image tx args d b k k1 h =
+called_counts : (r : CallAnswer) (p : Policy) (image : Image) (tx : ℕ) (args : List ℤ)
+    (d b : Device) (k k1 : ℕ) → Called r p image tx args d b k k1 → Counts (answer_of_call r) d b
+called_counts (called.Done v l) p image tx args d b k k1 h =
     counts_all _ d _ b (λ e. absurd cc) h.0.played
-called_counts (called.Trap t) image tx args d b k k1 h =
-    counts_all _ d _ b (λ e. absurd cc) h.played
-called_counts (called.Off p) image tx args d b k k1 h =
+called_counts (called.Trap t) p image tx args d b k k1 h =
+    counts_all _ d _ b (λ e. absurd cc) h.1.played
+called_counts (called.Aborted t) p image tx args d b k k1 h =
+    counts_all _ d _ b (λ e. absurd cc) h.1.played
+called_counts (called.Off q) p image tx args d b k k1 h =
     counts_part _ refusal.Off d _ b (λ e. absurd cc) h.0
-called_counts called.Failed image tx args d b k k1 h = counts_failed _ d _ b h
-called_counts called.NoMemory image tx args d b k k1 h =
+called_counts called.Failed p image tx args d b k k1 h = counts_failed _ d _ b h
+called_counts called.NoMemory p image tx args d b k k1 h =
     counts_part _ refusal.NoMemory d _ b (λ e. absurd cc) h
-called_counts (called.Unusable t) image tx args d b k k1 h = absurd h
-called_counts called.Numbers image tx args d b k k1 h = absurd h
+called_counts (called.Unusable t) p image tx args d b k k1 h = absurd h
+called_counts called.Numbers p image tx args d b k k1 h = absurd h
 
-pub call_counts : (r : CallAnswer) (image : Image) (tx : ℕ) (args : List ℤ) (d b : Device)
-    (k k1 : ℕ) → IsTxCalled r image tx args d b k k1 → Counts (answer_of_call r) d b
-call_counts r image tx args d b k k1 h =
+pub call_counts : (r : CallAnswer) (p : Policy) (image : Image) (tx : ℕ) (args : List ℤ)
+    (d b : Device) (k k1 : ℕ) → IsTxCalled r p image tx args d b k k1 → Counts (answer_of_call r) d b
+call_counts r p image tx args d b k k1 h =
     by_standing (Counts (answer_of_call r) d b) d
-    (λ on is. called_counts r image tx args d b k k1 (h.ready on is))
+    (λ on is. called_counts r p image tx args d b k k1 (h.ready on is))
     (λ kind on is. let same = h.unusable kind on is in
     counts_same answer_of_call r (called.Unusable kind) d b same.0 (λ e. absurd cc) same.1)
     (λ on is. let same = h.numbers on is in
     counts_same answer_of_call r called.Numbers d b same.0 (λ e. absurd cc) same.1)
     (λ off. let same = h.off off in
     counts_same answer_of_call r (called.Off phase.Unsealed) d b same.0 (λ e. absurd cc) same.1)
-
-marked_called_counts : (r : AbortAnswer) (image : Image) (tx : ℕ) (args : List ℤ) (d b : Device)
-    (k k1 : ℕ) → AbortCalled r image tx args d b k k1 → Counts (answer_of_marked_call r) d b
-marked_called_counts (marked.Done v l) image tx args d b k k1 h =
-    counts_all _ d _ b (λ e. absurd cc) h.0.played
-marked_called_counts (marked.Aborted t) image tx args d b k k1 h =
-    counts_all _ d _ b (λ e. absurd cc) h.played
-marked_called_counts (marked.Off p) image tx args d b k k1 h =
-    counts_part _ refusal.Off d _ b (λ e. absurd cc) h.0
-marked_called_counts marked.Failed image tx args d b k k1 h = counts_failed _ d _ b h
-marked_called_counts marked.NoMemory image tx args d b k k1 h =
-    counts_part _ refusal.NoMemory d _ b (λ e. absurd cc) h
-marked_called_counts (marked.Unusable t) image tx args d b k k1 h = absurd h
-marked_called_counts marked.Numbers image tx args d b k k1 h = absurd h
-
-pub marked_call_counts : (r : AbortAnswer) (image : Image) (tx : ℕ) (args : List ℤ) (d b : Device)
-    (k k1 : ℕ) → IsAbortCalled r image tx args d b k k1 → Counts (answer_of_marked_call r) d b
-marked_call_counts r image tx args d b k k1 h =
-    by_standing (Counts (answer_of_marked_call r) d b) d
-    (λ on is. marked_called_counts r image tx args d b k k1 (h.ready on is))
-    (λ kind on is. let same = h.unusable kind on is in
-    counts_same answer_of_marked_call r (marked.Unusable kind) d b same.0 (λ e. absurd cc) same.1)
-    (λ on is. let same = h.numbers on is in
-    counts_same answer_of_marked_call r marked.Numbers d b same.0 (λ e. absurd cc) same.1)
-    (λ off. let same = h.off off in
-    counts_same answer_of_marked_call r (marked.Off phase.Unsealed) d b same.0 (λ e. absurd cc)
-    same.1)

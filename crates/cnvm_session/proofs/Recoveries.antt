@@ -1,21 +1,18 @@
 -- The count of faults in a recovery.
-use Rattle.std.proofs.Common.{◌≡◌, ℕ, true, false, ⊎_elim, List, [], ℤ, sym, ◌∙◌}
+use Rattle.std.proofs.Common.{ℕ, ⊎_elim, List, [], ℤ}
 use Rattle.cache_model.specs.Event.{CacheEvent}
 use Rattle.cache_model.specs.Cache.{view}
 use Rattle.pmem.specs.Device.{Device}
 use Rattle.pmem.specs.declared.answer.Phase.TheVariants as phase
 use Rattle.pmem.specs.declared.answer.Refusal.TheVariants as refusal
 use Rattle.pool_layout.specs.declared.places.TheConstants.{MARK}
-use Rattle.pool_layout.specs.Image.{is_sealed}
+use Rattle.pm_machine.specs.declared.records.Policy.{Policy}
 use Rattle.pm_machine.specs.declared.image.Image.{Image}
 use Rattle.tx_run.specs.Standing.{trap_of_mark}
 use Rattle.recovery.specs.Recovered.{Cleaned, Redid, IsRecovered}
 use Rattle.recovery.specs.declared.answer.RecoverAnswer.{RecoverAnswer}
 use Rattle.recovery.specs.declared.answer.RecoverAnswer.TheVariants as recovered
-use Rattle.abort_mode.specs.Answers.{AbortRedid, IsAbortRedone}
-use Rattle.abort_mode.specs.declared.answer.AbortAnswer.{AbortAnswer}
-use Rattle.abort_mode.specs.declared.answer.AbortAnswer.TheVariants as marked
-use Rattle.cnvm_session.specs.Outcomes.{answer_of_recovery, answer_of_marked_recovery}
+use Rattle.cnvm_session.specs.Outcomes.{answer_of_recovery}
 use Rattle.cnvm_session.proofs.Cases.{by_found}
 use Rattle.cnvm_session.proofs.Faults.{Counts, counts_all, counts_part, counts_failed, counts_same}
 
@@ -31,30 +28,33 @@ cleaned_counts recovered.NoMemory d es b h =
     counts_part _ refusal.NoMemory d es b (λ e. absurd cc) h
 cleaned_counts (recovered.Redone v l) d es b h = absurd h
 cleaned_counts (recovered.Trap t) d es b h = absurd h
+cleaned_counts (recovered.Aborted t) d es b h = absurd h
 cleaned_counts (recovered.Unusable t) d es b h = absurd h
 cleaned_counts recovered.Numbers d es b h = absurd h
 
-redid_counts : (r : RecoverAnswer) (image : Image) (tx : ℕ) (args : List ℤ) (n : ℕ) (d b : Device)
-    (k k1 : ℕ) → Redid r image tx args n d b k k1 → Counts (answer_of_recovery r) d b
-redid_counts (recovered.Redone v l) image tx args n d b k k1 h =
+redid_counts : (r : RecoverAnswer) (p : Policy) (image : Image) (tx : ℕ) (args : List ℤ) (n : ℕ)
+    (d b : Device) (k k1 : ℕ) → Redid r p image tx args n d b k k1 → Counts (answer_of_recovery r) d b
+redid_counts (recovered.Redone v l) p image tx args n d b k k1 h =
     counts_all _ d _ b (λ e. absurd cc) h.0.played
-redid_counts (recovered.Trap t) image tx args n d b k k1 h =
-    counts_all _ d _ b (λ e. absurd cc) h.played
-redid_counts (recovered.Off phase.Sealed) image tx args n d b k k1 h =
+redid_counts (recovered.Trap t) p image tx args n d b k k1 h =
+    counts_all _ d _ b (λ e. absurd cc) h.1.played
+redid_counts (recovered.Aborted t) p image tx args n d b k k1 h =
+    counts_all _ d _ b (λ e. absurd cc) h.1.played
+redid_counts (recovered.Off phase.Sealed) p image tx args n d b k k1 h =
     counts_part _ refusal.Off d _ b (λ e. absurd cc) h
-redid_counts (recovered.Off phase.Unsealed) image tx args n d b k k1 h = absurd h
-redid_counts (recovered.Off phase.Sealing) image tx args n d b k k1 h = absurd h
-redid_counts recovered.Failed image tx args n d b k k1 h = counts_failed _ d _ b h
-redid_counts recovered.NoMemory image tx args n d b k k1 h =
+redid_counts (recovered.Off phase.Unsealed) p image tx args n d b k k1 h = absurd h
+redid_counts (recovered.Off phase.Sealing) p image tx args n d b k k1 h = absurd h
+redid_counts recovered.Failed p image tx args n d b k k1 h = counts_failed _ d _ b h
+redid_counts recovered.NoMemory p image tx args n d b k k1 h =
     ⊎_elim (λ same. counts_all _ d [] b (λ e. absurd cc) same.0)
     (λ part. counts_part _ refusal.NoMemory d _ b (λ e. absurd cc) part) h
-redid_counts recovered.Clean image tx args n d b k k1 h = absurd h
-redid_counts (recovered.Unusable t) image tx args n d b k k1 h = absurd h
-redid_counts recovered.Numbers image tx args n d b k k1 h = absurd h
+redid_counts recovered.Clean p image tx args n d b k k1 h = absurd h
+redid_counts (recovered.Unusable t) p image tx args n d b k k1 h = absurd h
+redid_counts recovered.Numbers p image tx args n d b k k1 h = absurd h
 
-pub recovery_counts : (r : RecoverAnswer) (image : Image) (d b : Device) (k k1 : ℕ)
-    → IsRecovered r image d b k k1 → Counts (answer_of_recovery r) d b
-recovery_counts r image d b k k1 h =
+pub recovery_counts : (r : RecoverAnswer) (p : Policy) (image : Image) (d b : Device) (k k1 : ℕ)
+    → IsRecovered r p image d b k k1 → Counts (answer_of_recovery r) d b
+recovery_counts r p image d b k k1 h =
     by_found (Counts (answer_of_recovery r) d b) image d
     (λ on mark. let same = h.unusable on mark in
     counts_same answer_of_recovery r (recovered.Unusable (trap_of_mark (view d.cache MARK))) d b
@@ -62,47 +62,10 @@ recovery_counts r image d b k k1 h =
     (λ on mark out. let same = h.numbers on mark out in
     counts_same answer_of_recovery r recovered.Numbers d b same.0 (λ e. absurd cc) same.1)
     (λ on mark fit unsealed. cleaned_counts r d _ b (h.clean on mark fit unsealed))
-    (λ on mark fit sealed named. redid_counts r image _ _ _ d b k k1
+    (λ on mark fit sealed named. redid_counts r p image _ _ _ d b k k1
     (h.redid on mark fit sealed named))
     (λ on mark fit sealed unnamed. let same = h.unnamed on mark fit sealed unnamed in
     counts_same answer_of_recovery r recovered.Numbers d b same.0 (λ e. absurd cc) same.1)
     (λ off. let same = h.off off in
     counts_same answer_of_recovery r (recovered.Off phase.Unsealed) d b same.0 (λ e. absurd cc)
-    same.1)
-
-marked_redid_counts : (r : AbortAnswer) (image : Image) (tx : ℕ) (args : List ℤ) (n : ℕ)
-    (d b : Device) (k k1 : ℕ) → AbortRedid r image tx args n d b k k1
-    → Counts (answer_of_marked_recovery r) d b
-marked_redid_counts (marked.Done v l) image tx args n d b k k1 h =
-    counts_all _ d _ b (λ e. absurd cc) h.0.played
-marked_redid_counts (marked.Aborted t) image tx args n d b k k1 h =
-    counts_all _ d _ b (λ e. absurd cc) h.played
-marked_redid_counts (marked.Off phase.Sealed) image tx args n d b k k1 h =
-    counts_part _ refusal.Off d _ b (λ e. absurd cc) h
-marked_redid_counts (marked.Off phase.Unsealed) image tx args n d b k k1 h = absurd h
-marked_redid_counts (marked.Off phase.Sealing) image tx args n d b k k1 h = absurd h
-marked_redid_counts marked.Failed image tx args n d b k k1 h = counts_failed _ d _ b h
-marked_redid_counts marked.NoMemory image tx args n d b k k1 h =
-    ⊎_elim (λ same. counts_all _ d [] b (λ e. absurd cc) same.0)
-    (λ part. counts_part _ refusal.NoMemory d _ b (λ e. absurd cc) part) h
-marked_redid_counts (marked.Unusable t) image tx args n d b k k1 h = absurd h
-marked_redid_counts marked.Numbers image tx args n d b k k1 h = absurd h
-
-pub marked_recovery_counts : (r : AbortAnswer) (image : Image) (d b : Device) (k k1 : ℕ)
-    → is_sealed (view d.cache) ≡ true → IsAbortRedone r image d b k k1
-    → Counts (answer_of_marked_recovery r) d b
-marked_recovery_counts r image d b k k1 sealed h =
-    by_found (Counts (answer_of_marked_recovery r) d b) image d
-    (λ on mark. let same = h.unusable on mark in
-    counts_same answer_of_marked_recovery r (marked.Unusable (trap_of_mark (view d.cache MARK))) d b
-    same.0 (λ e. absurd cc) same.1)
-    (λ on mark out. let same = h.numbers on mark out in
-    counts_same answer_of_marked_recovery r marked.Numbers d b same.0 (λ e. absurd cc) same.1)
-    (λ on mark fit unsealed. let no : true ≡ false = sym sealed ∙ unsealed in absurd cc)
-    (λ on mark fit is named. marked_redid_counts r image _ _ _ d b k k1
-    (h.redid on mark fit named))
-    (λ on mark fit is unnamed. let same = h.unnamed on mark fit unnamed in
-    counts_same answer_of_marked_recovery r marked.Numbers d b same.0 (λ e. absurd cc) same.1)
-    (λ off. let same = h.off off in
-    counts_same answer_of_marked_recovery r (marked.Off phase.Unsealed) d b same.0 (λ e. absurd cc)
     same.1)

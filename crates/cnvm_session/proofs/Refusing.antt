@@ -11,15 +11,13 @@ use Rattle.pool_layout.specs.declared.places.TheConstants.{DONE, ATTEMPT, MARK}
 use Rattle.pool_layout.specs.declared.limits.Sizes.{Sizes}
 use Rattle.pool_map.specs.declared.shapes.Shapes.{Shapes}
 use Rattle.pool_map.specs.declared.trap.TrapKind.{TrapKind}
+use Rattle.pm_machine.specs.declared.records.Policy.{Policy}
 use Rattle.pm_machine.specs.declared.image.Image.{Image}
 use Rattle.tx_run.specs.declared.standing.Standing.TheVariants as stands
 use Rattle.tx_run.specs.Standing.{standing_of, is_number, trap_of_mark}
 use Rattle.tx_run.specs.Called.{Called}
 use Rattle.tx_run.specs.declared.answer.CallAnswer.{CallAnswer}
 use Rattle.tx_run.specs.declared.answer.CallAnswer.TheVariants as called
-use Rattle.abort_mode.specs.Answers.{AbortCalled}
-use Rattle.abort_mode.specs.declared.answer.AbortAnswer.{AbortAnswer}
-use Rattle.abort_mode.specs.declared.answer.AbortAnswer.TheVariants as undone
 use Rattle.recovery.specs.declared.answer.RecoverAnswer.{RecoverAnswer}
 use Rattle.recovery.specs.declared.answer.RecoverAnswer.TheVariants as recovered
 use Rattle.c_types.specs.Shapes.{shapes_of}
@@ -30,10 +28,9 @@ use Rattle.cnvm_session.specs.declared.mode.Mode.TheVariants.{Ready, Down, Unusa
 use Rattle.cnvm_session.specs.declared.answer.Answer.{Answer}
 use Rattle.cnvm_session.specs.declared.answer.Answer.TheVariants as answer
 use Rattle.cnvm_session.specs.declared.program.Program.{Program}
-use Rattle.cnvm_session.specs.Marks.{rolls_back_of, owes_marked}
-use Rattle.cnvm_session.specs.Outcomes.{RunsUnmarked, RunsMarked, RunsBy, answer_of_call}
-use Rattle.cnvm_session.specs.Outcomes.{mode_of_call, answer_of_marked_call, mode_of_marked_call}
-use Rattle.cnvm_session.specs.Outcomes.{RecoversBy, answer_of_recovery, answer_of_marked_recovery}
+use Rattle.cnvm_session.specs.Marks.{rolls_back_of, policy_of, owes_marked}
+use Rattle.cnvm_session.specs.Outcomes.{RunsBy, answer_of_call, mode_of_call, RecoversBy}
+use Rattle.cnvm_session.specs.Outcomes.{answer_of_recovery}
 use Rattle.cnvm_session.specs.Commands.{Refused, Tells, Shows, Lasts, call_number, tx_parameters}
 use Rattle.cnvm_session.specs.Commands.{CallsWith, CallsTo, CallsNamed, Calls, fallen, Powers}
 use Rattle.cnvm_session.specs.Commands.{Commanded}
@@ -67,25 +64,16 @@ marked w t e =
     )
 
 -- an accepted call is refused only for the pool's mark or its numbers
-by_answer : (r : CallAnswer) (image : Image) (tx : ℕ) (args : List ℤ) (d b : Device) (k k1 : ℕ)
-    → IsRefusal (answer_of_call r) → Called r image tx args d b k k1 → ⊥
-by_answer (called.Done v l) image tx args d b k k1 is h = is
-by_answer (called.Trap t) image tx args d b k k1 is h = is
-by_answer (called.Off p) image tx args d b k k1 is h = is
-by_answer called.Failed image tx args d b k k1 is h = is
-by_answer called.NoMemory image tx args d b k k1 is h = is
-by_answer (called.Unusable t) image tx args d b k k1 is h = h
-by_answer called.Numbers image tx args d b k k1 is h = h
-
-marked_by_answer : (r : AbortAnswer) (image : Image) (tx : ℕ) (args : List ℤ) (d b : Device)
-    (k k1 : ℕ) → IsRefusal (answer_of_marked_call r) → AbortCalled r image tx args d b k k1 → ⊥
-marked_by_answer (undone.Done v l) image tx args d b k k1 is h = is
-marked_by_answer (undone.Aborted t) image tx args d b k k1 is h = is
-marked_by_answer (undone.Off p) image tx args d b k k1 is h = is
-marked_by_answer undone.Failed image tx args d b k k1 is h = is
-marked_by_answer undone.NoMemory image tx args d b k k1 is h = is
-marked_by_answer (undone.Unusable t) image tx args d b k k1 is h = h
-marked_by_answer undone.Numbers image tx args d b k k1 is h = h
+by_answer : (r : CallAnswer) (p : Policy) (image : Image) (tx : ℕ) (args : List ℤ) (d b : Device)
+    (k k1 : ℕ) → IsRefusal (answer_of_call r) → Called r p image tx args d b k k1 → ⊥
+by_answer (called.Done v l) p image tx args d b k k1 is h = is
+by_answer (called.Trap t) p image tx args d b k k1 is h = is
+by_answer (called.Aborted t) p image tx args d b k k1 is h = is
+by_answer (called.Off q) p image tx args d b k k1 is h = is
+by_answer called.Failed p image tx args d b k k1 is h = is
+by_answer called.NoMemory p image tx args d b k k1 is h = is
+by_answer (called.Unusable t) p image tx args d b k k1 is h = h
+by_answer called.Numbers p image tx args d b k k1 is h = h
 
 -- a call that found the mark, or the numbers at their end
 unusable_kept : (t : TrapKind) (d : Device) (n : Mode) (b : Device) (k k1 : ℕ)
@@ -95,44 +83,22 @@ unusable_kept t d n b k k1 e mode same steps =
     let mark = marked (view d.cache) t e in
     (same, inr (refl, mark.0, mode ∙ ap Unusable mark.1), steps)
 
-unmarked_kept :
-    (image : Image) (tx : ℕ) (args : List ℤ) (d : Device) (a : Answer) (n : Mode) (b : Device)
-    (k k1 : ℕ) →
-    IsRefusal a → RunsUnmarked image tx args d a n b k k1 → Kept Ready d n b k k1
-unmarked_kept image tx args d a n b k k1 is h =
+runs_kept :
+    (marks : Bool) (image : Image) (tx : ℕ) (args : List ℤ) (d : Device) (a : Answer) (n : Mode)
+    (b : Device) (k k1 : ℕ) →
+    IsRefusal a → RunsBy marks image tx args d a n b k k1 → Kept Ready d n b k k1
+runs_kept marks image tx args d a n b k k1 is h =
     let r : CallAnswer = h.tx_answer in
     let refused : IsRefusal (answer_of_call r) = subst IsRefusal h.answer is in
     by_standing (Kept Ready d n b k k1) d
-    (λ on e. absurd (by_answer r image tx args d b k k1 refused (h.called.ready on e)))
+    (λ on e. absurd (by_answer r (policy_of marks) image tx args d b k k1 refused
+    (h.called.ready on e)))
     (λ t on e. let same = h.called.unusable t on e in
     unusable_kept t d n b k k1 e (h.mode ∙ ap mode_of_call same.0) same.1 same.2)
     (λ on e. let same = h.called.numbers on e in
     (same.1, inl (h.mode ∙ ap mode_of_call same.0), same.2))
     (λ off. absurd (subst (λ (x : CallAnswer). IsRefusal (answer_of_call x))
     ((h.called.off off).0) refused))
-
-marked_kept :
-    (image : Image) (tx : ℕ) (args : List ℤ) (d : Device) (a : Answer) (n : Mode) (b : Device)
-    (k k1 : ℕ) →
-    IsRefusal a → RunsMarked image tx args d a n b k k1 → Kept Ready d n b k k1
-marked_kept image tx args d a n b k k1 is h =
-    let r : AbortAnswer = h.tx_answer in
-    let refused : IsRefusal (answer_of_marked_call r) = subst IsRefusal h.answer is in
-    by_standing (Kept Ready d n b k k1) d
-    (λ on e. absurd (marked_by_answer r image tx args d b k k1 refused (h.called.ready on e)))
-    (λ t on e. let same = h.called.unusable t on e in
-    unusable_kept t d n b k k1 e (h.mode ∙ ap mode_of_marked_call same.0) same.1 same.2)
-    (λ on e. let same = h.called.numbers on e in
-    (same.1, inl (h.mode ∙ ap mode_of_marked_call same.0), same.2))
-    (λ off. absurd (subst (λ (x : AbortAnswer). IsRefusal (answer_of_marked_call x))
-    ((h.called.off off).0) refused))
-
-runs_kept :
-    (marks : Bool) (image : Image) (tx : ℕ) (args : List ℤ) (d : Device) (a : Answer) (n : Mode)
-    (b : Device) (k k1 : ℕ) →
-    IsRefusal a → RunsBy marks image tx args d a n b k k1 → Kept Ready d n b k k1
-runs_kept true image tx args d a n b k k1 is h = marked_kept image tx args d a n b k k1 is h
-runs_kept false image tx args d a n b k k1 is h = unmarked_kept image tx args d a n b k k1 is h
 
 module _ (program : Program) (args : List ℤ) (d : Device) (a : Answer) (n : Mode) (b : Device)
     (k k1 : ℕ) (is : IsRefusal a) where
@@ -206,26 +172,16 @@ no_pick : (r : RecoverAnswer) → IsBadPick (answer_of_recovery r) → ⊥
 no_pick recovered.Clean is = is
 no_pick (recovered.Redone v l) is = is
 no_pick (recovered.Trap t) is = is
+no_pick (recovered.Aborted t) is = is
 no_pick (recovered.Unusable t) is = is
 no_pick recovered.Numbers is = is
 no_pick (recovered.Off p) is = is
 no_pick recovered.Failed is = is
 no_pick recovered.NoMemory is = is
 
-marked_no_pick : (r : AbortAnswer) → IsBadPick (answer_of_marked_recovery r) → ⊥
-marked_no_pick (undone.Done v l) is = is
-marked_no_pick (undone.Aborted t) is = is
-marked_no_pick (undone.Unusable t) is = is
-marked_no_pick undone.Numbers is = is
-marked_no_pick (undone.Off p) is = is
-marked_no_pick undone.Failed is = is
-marked_no_pick undone.NoMemory is = is
-
 recovers_no_pick : (marks : Bool) (image : Image) (d : Device) (a : Answer) (n : Mode) (b : Device)
     (k k1 : ℕ) → IsBadPick a → RecoversBy marks image d a n b k k1 → ⊥
-recovers_no_pick true image d a n b k k1 is h =
-    marked_no_pick h.tx_answer (subst IsBadPick h.answer is)
-recovers_no_pick false image d a n b k k1 is h = no_pick h.tx_answer (subst IsBadPick h.answer is)
+recovers_no_pick marks image d a n b k k1 is h = no_pick h.tx_answer (subst IsBadPick h.answer is)
 
 powers_kept : (program : Program) (choice : Choice) (m : Mode) (d : Device) (a : Answer) (n : Mode)
     (b : Device) (k k1 : ℕ) (first pick : Option ℕ) → fallen 0 choice.picks ≡ first

@@ -1,5 +1,5 @@
 -- The recovery of a pool at rest stores only the attempt's word.
-use Rattle.std.proofs.Common.{◌≡◌, ◌≢◌, inl, inr, Bool, ◌&&◌, ℕ, zero, suc}
+use Rattle.std.proofs.Common.{◌≡◌, ◌≢◌, inl, inr, Bool, false, ◌&&◌, ℕ, zero, suc}
 use Rattle.std.proofs.Common.{if◌then◌else◌, nat_lt, List, []}
 use Rattle.std.proofs.Common.{◌∷◌, ℤ, pos, refl, sym, ap, ◌∙◌, subst, arith}
 use Rattle.cache_model.specs.Event.{CacheEvent, Store, Flush, Fence}
@@ -32,7 +32,7 @@ use Rattle.cnvm_session.specs.declared.answer.Answer.{Answer}
 use Rattle.cnvm_session.specs.declared.answer.Answer.TheVariants as answer
 use Rattle.cnvm_session.specs.declared.program.Program.{Program}
 use Rattle.cnvm_session.specs.Marks.{rolls_back_of}
-use Rattle.cnvm_session.specs.Outcomes.{RecoversUnmarked, RecoversBy, Recovers}
+use Rattle.cnvm_session.specs.Outcomes.{RecoversBy, Recovers}
 use Rattle.cnvm_session.specs.Outcomes.{answer_of_recovery, mode_of_recovery}
 use Rattle.cnvm_session.specs.Laws.{TellTheSame, IsQuiet, IsCacheAtRest, OwesNothing}
 
@@ -124,6 +124,7 @@ cleaned_alike s recovered.NoMemory d es b only h =
     (alike_part s refusal.NoMemory d es b only h, refl)
 cleaned_alike s (recovered.Redone v l) d es b only h = absurd h
 cleaned_alike s (recovered.Trap t) d es b only h = absurd h
+cleaned_alike s (recovered.Aborted t) d es b only h = absurd h
 cleaned_alike s (recovered.Unusable t) d es b only h = absurd h
 cleaned_alike s recovered.Numbers d es b only h = absurd h
 
@@ -138,6 +139,7 @@ cleaned_none recovered.Failed d b h = absurd h
 cleaned_none recovered.NoMemory d b h = absurd h
 cleaned_none (recovered.Redone v l) d b h = absurd h
 cleaned_none (recovered.Trap t) d b h = absurd h
+cleaned_none (recovered.Aborted t) d b h = absurd h
 cleaned_none (recovered.Unusable t) d b h = absurd h
 cleaned_none recovered.Numbers d b h = absurd h
 
@@ -154,7 +156,7 @@ module _ (program : Program) (choice : Choice) (n : Mode) (d b : Device) (a : An
   quiet = rests.quiet (view left.cache) (left_image d.cache choice.rest choice.picks)
 
   -- nothing is sealed, so no marked transaction is owed
-  recovers : RecoversUnmarked program.image left a n b k k1
+  recovers : RecoversBy false program.image left a n b k k1
   recovers = subst (λ (marks : Bool). RecoversBy marks program.image left a n b k k1)
       (ap (λ (sealed : Bool). sealed && rolls_back_of program (tx_in left)) quiet.unsealed) does
 

@@ -1,11 +1,13 @@
 -- Which transactions of a program are marked `abort`, so that a trap rolls them back, and whether a
 -- pool owes one of them.
-use Rattle.std.specs.Prelude.{ℕ, zero, suc, Bool, false, ◌&&◌, slice_get}
+use Rattle.std.specs.Prelude.{ℕ, zero, suc, Bool, true, false, ◌&&◌, slice_get}
 use Rattle.std.specs.List.{list_any}
 use Rattle.std.specs.Option.{option_map_or}
 use Rattle.cache_model.specs.Cache.{view}
 use Rattle.pmem.specs.Device.{Device}
 use Rattle.pool_layout.specs.Image.{is_sealed}
+use Rattle.pm_machine.specs.declared.records.Policy.{Policy}
+use Rattle.pm_machine.specs.declared.records.Policy.TheVariants.{EndPool, RollBack}
 use Rattle.recovery.specs.Recovered.{tx_in}
 use Rattle.c_tree.specs.ItemTree.{FunctionTree}
 use Rattle.c_types.specs.Shapes.{transactions_of}
@@ -19,6 +21,11 @@ abbrev pub rolls_back_of : Program → (tx : ℕ) → Bool
 rolls_back_of program zero = false
 rolls_back_of program (suc i) =
     option_map_or is_marked (slice_get (transactions_of program.typed) i) false
+
+-- what becomes of a trap: a marked transaction is rolled back, another one ends the pool
+abbrev pub policy_of : (marked : Bool) → Policy
+policy_of false = EndPool
+policy_of true = RollBack
 
 -- whether the program has a marked transaction
 abbrev pub has_marked : Program → Bool

@@ -1,8 +1,7 @@
 //! The commands of a script, run on the pool of a program, and their answers. It rests on `tx_run`
-//! and `recovery`, on `abort_mode` for transactions that roll back, and on `c_types` for the
-//! program's names, shapes and marks. Its one contract for the
-//! crates above: each command does to the session and the device what `specs/Commands.antt` says,
-//! and `answer_text` writes exactly the line of each answer.
+//! and `recovery`, and on `c_types` for the program's names, shapes and marks. Its one contract for
+//! the crates above: each command does to the session and the device what `specs/Commands.antt`
+//! says, and `answer_text` writes exactly the line of each answer.
 #![tactic(auto)]
 
 mod answer;

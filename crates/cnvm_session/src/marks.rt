@@ -3,10 +3,11 @@
 ghost use Rattle.std.specs.Prelude.{◌≡◌, ◌≤◌, true};
 ghost use Rattle.cache_model.specs.Cache.{view};
 ghost use Rattle.pool_layout.specs.Image.{is_sealed};
-ghost use Rattle.cnvm_session.specs.Marks.{rolls_back_of, owes_marked};
+ghost use Rattle.cnvm_session.specs.Marks.{rolls_back_of, policy_of, owes_marked};
 
 use crate::program::Program;
 use args_log::{PendingAnswer, pending};
+use pm_machine::Policy;
 use pmem::PmemWork;
 
 /// Whether the transaction of that number is marked `abort`; no number past the last is.
@@ -18,6 +19,17 @@ pub fn rolls_back(program: &Program, tx: u64) -> bool
         false
     } else {
         program.typed.rolls_back(tx)
+    }
+}
+
+/// What becomes of a trap: a marked transaction is rolled back, another one ends the pool.
+pub(crate) fn policy_of(marked: bool) -> Policy
+    ensures { result ≡ policy_of marked }
+{
+    if marked {
+        Policy::RollBack
+    } else {
+        Policy::EndPool
     }
 }
 

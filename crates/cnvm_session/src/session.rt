@@ -14,24 +14,19 @@ ghost use Rattle.cnvm_session.specs.Opening.{opening_events};
 ghost use Rattle.cnvm_session.specs.Unmade.{IsUnmade};
 ghost use Rattle.c_types.specs.Shapes.{shapes_of};
 ghost use Rattle.cnvm_session.specs.Marks.{rolls_back_of, owes_marked};
-ghost use Rattle.cnvm_session.specs.Outcomes.{Runs, RunsMarked, RunsUnmarked};
-ghost use Rattle.cnvm_session.specs.Outcomes.{Recovers, RecoversMarked, RecoversUnmarked, Opens};
+ghost use Rattle.cnvm_session.specs.Outcomes.{RunsBy, Runs, RecoversBy, Recovers, Opens};
 ghost use Rattle.cnvm_session.specs.Steps.{bounded_steps, most_of_command, most_of_program};
 ghost use Rattle.cnvm_session.specs.Commands.{Lasts, Shows, tx_parameters, CallsTo, Calls, fallen};
 ghost use Rattle.cnvm_session.specs.Commands.{Powers, Commanded};
 
 use crate::answer::Answer;
 use crate::creating::{StartFault, create_pool};
-use crate::marks::{owes_marked, rolls_back};
+use crate::marks::{owes_marked, policy_of, rolls_back};
 use crate::mode::Mode;
 use crate::opening::open_pool;
-use crate::outcome::{
-    answer_of_call, answer_of_marked_call, answer_of_marked_recovery, answer_of_recovery,
-    mode_of_call, mode_of_marked_call, mode_of_marked_recovery, mode_of_recovery,
-};
+use crate::outcome::{answer_of_call, answer_of_recovery, mode_of_call, mode_of_recovery};
 use crate::program::Program;
 use crate::showing::pool_text;
-use abort_mode::{call_abort_with, redo_abort_with};
 use cache_model::{Choice, Pick};
 use cnvm_script::Command;
 use nvm_base::Steps;
@@ -300,16 +295,22 @@ impl Session {
         ensures most { steps.new ≤ steps.old + bounded_steps false program.now.image }
         ensures lines { (P.device dev.new).lines ≡ (P.device dev.old).lines }
     {
-        if rolls_back(program, tx) {
-            self.run_marked(alloc, &program.image, tx, args, dev, steps)
-        } else {
-            self.run_unmarked(alloc, &program.image, tx, args, dev, steps)
-        }
+        self.run_by(
+            rolls_back(program, tx),
+            alloc,
+            &program.image,
+            tx,
+            args,
+            dev,
+            steps,
+        )
     }
 
-    /// Runs a call of an unmarked transaction.
-    fn run_unmarked<P: PmemWork, L: Ledger>(
+    /// Runs a call, by whether its transaction is marked.
+    #[tactic(auto, using(crate::proofs::Bounding::call_within))]
+    fn run_by<P: PmemWork, L: Ledger>(
         &mut self,
+        marked: bool,
         alloc: Global,
         image: &Image,
         tx: u64,
@@ -320,33 +321,7 @@ impl Session {
         requires first { 1 ≤ tx }
         requires last { tx ≤ length image.now.parts.txs }
         requires lines { (P.device dev.old).lines ≡ pool_lines image.now.parts.sizes }
-        ensures runs { RunsUnmarked image.now tx args.now (P.device dev.old) result self.new
-            (P.device dev.new) steps.old steps.new }
-        ensures count { (P.device dev.old).faults ≤ (P.device dev.new).faults }
-        ensures fault { result ≡ Answer.DeviceFault
-            → FaultsRose (P.device dev.old).faults (P.device dev.new).faults }
-        ensures most { steps.new ≤ steps.old + image.now.parts.most }
-        ensures lines { (P.device dev.new).lines ≡ (P.device dev.old).lines }
-    {
-        let tx_answer = call(alloc, &mut self.spare, image, tx, args, dev, steps);
-        self.mode = mode_of_call(tx_answer);
-        answer_of_call(tx_answer)
-    }
-
-    /// Runs a call of a marked transaction.
-    fn run_marked<P: PmemWork, L: Ledger>(
-        &mut self,
-        alloc: Global,
-        image: &Image,
-        tx: u64,
-        args: &[i64],
-        dev: &mut P,
-        steps: &mut Steps<L>,
-    ) -> Answer
-        requires first { 1 ≤ tx }
-        requires last { tx ≤ length image.now.parts.txs }
-        requires lines { (P.device dev.old).lines ≡ pool_lines image.now.parts.sizes }
-        ensures runs { RunsMarked image.now tx args.now (P.device dev.old) result self.new
+        ensures runs { RunsBy marked image.now tx args.now (P.device dev.old) result self.new
             (P.device dev.new) steps.old steps.new }
         ensures count { (P.device dev.old).faults ≤ (P.device dev.new).faults }
         ensures fault { result ≡ Answer.DeviceFault
@@ -354,9 +329,10 @@ impl Session {
         ensures most { steps.new ≤ steps.old + bounded_steps false image.now }
         ensures lines { (P.device dev.new).lines ≡ (P.device dev.old).lines }
     {
-        let tx_answer = call_abort_with(alloc, &mut self.spare, image, tx, args, dev, steps);
-        self.mode = mode_of_marked_call(tx_answer);
-        answer_of_marked_call(tx_answer)
+        let policy = policy_of(marked);
+        let tx_answer = call(alloc, &mut self.spare, image, policy, tx, args, dev, steps);
+        self.mode = mode_of_call(tx_answer);
+        answer_of_call(tx_answer)
     }
 
     /// Cuts the power, and recovers what the cut leaves.
@@ -406,56 +382,31 @@ impl Session {
             (owes_marked program.now (P.device dev.old)) program.now.image }
         ensures lines { (P.device dev.new).lines ≡ (P.device dev.old).lines }
     {
-        if owes_marked(program, dev) {
-            self.recover_marked(alloc, &program.image, dev, steps)
-        } else {
-            self.recover_unmarked(alloc, &program.image, dev, steps)
-        }
+        self.recover_by(owes_marked(program, dev), alloc, &program.image, dev, steps)
     }
 
-    /// Recovers a pool that owes no marked transaction.
-    fn recover_unmarked<P: PmemWork, L: Ledger>(
+    /// Recovers a pool, by whether it owes a marked transaction.
+    #[tactic(auto, using(crate::proofs::Bounding::recovery_within))]
+    fn recover_by<P: PmemWork, L: Ledger>(
         &mut self,
+        marked: bool,
         alloc: Global,
         image: &Image,
         dev: &mut P,
         steps: &mut Steps<L>,
     ) -> Answer
         requires lines { (P.device dev.old).lines ≡ pool_lines image.now.parts.sizes }
-        ensures recovers { RecoversUnmarked image.now (P.device dev.old) result self.new
+        ensures recovers { RecoversBy marked image.now (P.device dev.old) result self.new
             (P.device dev.new) steps.old steps.new }
         ensures count { (P.device dev.old).faults ≤ (P.device dev.new).faults }
         ensures fault { result ≡ Answer.DeviceFault
             → FaultsRose (P.device dev.old).faults (P.device dev.new).faults }
-        ensures most { steps.new ≤ steps.old + bounded_steps false image.now }
+        ensures most { steps.new ≤ steps.old + bounded_steps marked image.now }
         ensures lines { (P.device dev.new).lines ≡ (P.device dev.old).lines }
     {
-        let tx_answer = recover_with(alloc, &mut self.spare, image, dev, steps);
+        let tx_answer = recover_with(alloc, &mut self.spare, image, policy_of(marked), dev, steps);
         self.mode = mode_of_recovery(tx_answer);
         answer_of_recovery(tx_answer)
-    }
-
-    /// Recovers a pool that owes a marked transaction.
-    fn recover_marked<P: PmemWork, L: Ledger>(
-        &mut self,
-        alloc: Global,
-        image: &Image,
-        dev: &mut P,
-        steps: &mut Steps<L>,
-    ) -> Answer
-        requires lines { (P.device dev.old).lines ≡ pool_lines image.now.parts.sizes }
-        requires sealed { is_sealed (view (P.device dev.old).cache) ≡ true }
-        ensures recovers { RecoversMarked image.now (P.device dev.old) result self.new
-            (P.device dev.new) steps.old steps.new }
-        ensures count { (P.device dev.old).faults ≤ (P.device dev.new).faults }
-        ensures fault { result ≡ Answer.DeviceFault
-            → FaultsRose (P.device dev.old).faults (P.device dev.new).faults }
-        ensures most { steps.new ≤ steps.old + bounded_steps true image.now }
-        ensures lines { (P.device dev.new).lines ≡ (P.device dev.old).lines }
-    {
-        let tx_answer = redo_abort_with(alloc, &mut self.spare, image, dev, steps);
-        self.mode = mode_of_marked_recovery(tx_answer);
-        answer_of_marked_recovery(tx_answer)
     }
 
     /// The lines of the pool.

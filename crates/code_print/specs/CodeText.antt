@@ -149,9 +149,9 @@ abbrev pub spots_at : List FunctionTree → ℕ → List Spot
 spots_at functions f = option_map_or function_spots (slice_get functions f) []
 
 -- the text of function f
-abbrev pub function_text : Program → List FunctionTree → Ir → MarkTable → (f : ℕ) → IrFunction
+abbrev pub function_listing : Program → List FunctionTree → Ir → MarkTable → (f : ℕ) → IrFunction
     → List ℕ
-function_text tree functions ir marks f u =
+function_listing tree functions ir marks f u =
     signature_text u ++ printed_from tree ir marks (spots_at functions f) f 0 u.code
 
 -- the text of the functions from function f on
@@ -159,7 +159,7 @@ abbrev pub printed_functions : Program → List FunctionTree → Ir → MarkTabl
     → List IrFunction → List ℕ
 printed_functions tree functions ir marks f [] = []
 printed_functions tree functions ir marks f (u ∷ us) =
-    function_text tree functions ir marks f u
+    function_listing tree functions ir marks f u
     ++ printed_functions tree functions ir marks (f + 1) us
 
 -- `ir` is the code of the tree, without logs

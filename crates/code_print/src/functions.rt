@@ -6,7 +6,7 @@ ghost use Rattle.c_tree.specs.ItemTree.{function_tree};
 ghost use Rattle.ir.specs.WellFormed.{IsWellFormed};
 ghost use Rattle.code_print.specs.CodeText as definitions;
 ghost use Rattle.code_print.specs.CodeText.{printed_from, kind_text, signature_text};
-ghost use Rattle.code_print.specs.CodeText.{function_text, printed_functions};
+ghost use Rattle.code_print.specs.CodeText.{function_listing, printed_functions};
 
 use crate::lines::{own_line, push_line};
 use c_tree::Ast;
@@ -101,7 +101,7 @@ fn push_function(
     requires few { number < 2 ^ 31 }
     requires short { length function.now.code < 2 ^ 31 }
     ensures { OnOk result (text.new ≡ text.old
-        ++ function_text ast.now (map function_tree (map (λ f. f.now) functions.now)) ir.now
+        ++ function_listing ast.now (map function_tree (map (λ f. f.now) functions.now)) ir.now
         marks.now number function.now) }
 {
     push_head(alloc, text, function)?;

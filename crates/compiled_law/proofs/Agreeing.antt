@@ -19,7 +19,6 @@ use Rattle.c_types.specs.Shapes.{shapes_of}
 use Rattle.c_meaning.specs.Meaning.{Out, Got, Stops, function_value, calls_of}
 use Rattle.c_meaning.specs.Transaction as meaning
 use Rattle.c_meaning.specs.Transaction.{Outcome, outcome, run_transaction}
-use Rattle.pool_map.specs.declared.trap.TrapKind.TheVariants.{LogFull}
 use Rattle.ir.specs.declared.instruction.Target.{Target}
 use Rattle.ir.specs.declared.instruction.Instruction.{Instruction}
 use Rattle.ir.specs.declared.instruction.Instruction.TheVariants.{Const, Copy, Bin, Jump, Branch}
@@ -69,7 +68,7 @@ use Rattle.machine_law.specs.pieces.Words as words
 use Rattle.machine_law.proofs.pieces.Kept.{stays_fit}
 use Rattle.machine_law.proofs.pieces.Piece.{piece_does}
 use Rattle.machine_law.proofs.pieces.PoolIn.{pool_is, headers_are}
-use Rattle.machine_law.proofs.pieces.Shown.{shown, cut}
+use Rattle.machine_law.proofs.pieces.Shown.{shown}
 use Rattle.machine_law.proofs.pieces.WordState.{words_stay}
 use Rattle.log_law.proofs.covered.Cover.{covered}
 use Rattle.machine_law.specs.matching.Compiled.{IsCodeOf}
@@ -78,18 +77,17 @@ use Rattle.machine_law.specs.matching.Match.{most}
 use Rattle.machine_law.proofs.matching.Keep.{kept_all}
 use Rattle.cnvm_session.specs.declared.program.Program.{Program}
 use Rattle.cnvm_session.specs.Commands.{tx_parameters}
-use Rattle.session_law.specs.Logged.{stored_at, AreLogged, stores_in, AreLoggedFirst}
-use Rattle.session_law.specs.Source.{source_parameters, means, deeds_in, LogsStores, outcome_with}
-use Rattle.session_law.specs.Source.{LogsFirst, ComesBy, source_pool, HasSourceHeaders}
+use Rattle.code_meaning.specs.Logged.{stores_in, TakeRecords}
+use Rattle.session_law.specs.Source.{source_parameters, means, deeds_in, LogsBy}
+use Rattle.session_law.specs.Source.{outcome_with, ComesBy, source_pool, HasSourceHeaders}
 use Rattle.session_law.specs.Words.{AreWords, HasPoolWords}
 use Rattle.session_law.specs.Agrees.{Matches, RunsAs, Agrees}
-use Rattle.compiled_law.specs.inside.Runs.{EndsAs, EndsIf}
-use Rattle.compiled_law.specs.inside.Records.{records_of, records_with}
+use Rattle.compiled_law.specs.inside.Runs.{EndsAs}
+use Rattle.compiled_law.specs.inside.Records.{asked_of, fresh}
 use Rattle.compiled_law.specs.Law.{IsCompiledFrom, CompiledLaw, ComesLaw}
 use Rattle.compiled_law.proofs.Apart.{heap_apart}
-use Rattle.compiled_law.proofs.Exact.{are_logged}
-use Rattle.compiled_law.proofs.Firsts.{are_firsts}
 use Rattle.compiled_law.proofs.Marked.{all_stores}
+use Rattle.compiled_law.proofs.Recording.{they_take}
 use Rattle.compiled_law.proofs.Entering.{code_of, parameters_same, entries_same, entry_is}
 use Rattle.compiled_law.proofs.Numbers.{all_below, logged_long}
 use Rattle.compiled_law.proofs.Numbers.{is_pool, enough_steps}
@@ -302,7 +300,7 @@ module _ (text : List ℕ) (list : Tokens) (program : Program)
       ∙ parameters_same marks t tree 0 0 t.functions i
 
   keep : KeepLaw
-  keep = kept_all piece_does stays_fit shown cut words_stay
+  keep = kept_all piece_does stays_fit shown words_stay
 
   -- how a run matches its outcome, from what the code does
   matched : (o : Out ℤ) (end : machine_end.End) (h : Words)
@@ -315,14 +313,6 @@ module _ (text : List ℕ) (list : Tokens) (program : Program)
   matched (Stops stop) end h e =
       subst (λ (x : machine_end.End). Matches program (outcome (Stops stop)) x h) (sym e) refl
 
-  -- the same, by whether the log has room for the run's logged stores
-  matched_if : (full : Bool) (o : Out ℤ) (end : machine_end.End) (h : Words) →
-      EndsIf full program.image L (lower.call_end o) end h →
-      Matches program (if full then meaning.Trap LogFull else outcome o) end h
-  matched_if true o end h e =
-      subst (λ (x : machine_end.End). Matches program (meaning.Trap LogFull) x h) (sym e) refl
-  matched_if false o end h e = matched o end h e
-
   -- each site for which the walks call is marked
   all_marked : (a : Site) → IsLogged plain.functions a → table.is_logged marks a ≡ true
   all_marked a logged = (c.exact a).1 logged
@@ -331,62 +321,38 @@ module _ (text : List ℕ) (list : Tokens) (program : Program)
   abbrev deeds_by : PoolMap → List ℤ → Option ℕ → List Deed
   deeds_by w args o = option_map_or (deeds_in plain s.ticks w args) o []
 
-  -- the logged stores of the run of a function
-  abbrev number_by : PoolMap → List ℤ → Option ℕ → ℕ
-  number_by w args o = records_of (table.is_logged marks) (deeds_by w args o)
+  -- the number of words that take a record in it
+  abbrev number_by : Bool → PoolMap → List ℤ → Option ℕ → ℕ
+  number_by r w args o = fresh [] (asked_of r (table.is_logged marks) s (deeds_by w args o))
 
-  logs_by : (w : PoolMap) (args : List ℤ) (o : Option ℕ) →
-      AreLogged plain.functions (stored_at (deeds_by w args o)) (number_by w args o)
-  logs_by w args None = refl
-  logs_by w args (Some g) =
-      are_logged marks plain c.exact (deeds_in plain s.ticks w args g)
-      (all_stores plain ((s.ticks + 1) * whole plain.functions) (code_start g args w s.ticks))
-
-  -- those of a marked transaction
-  abbrev first_by : PoolMap → List ℤ → Option ℕ → ℕ
-  first_by w args o = records_with (table.is_logged marks) s [] (deeds_by w args o)
-
-  firsts_by : (w : PoolMap) (args : List ℤ) (o : Option ℕ) →
-      AreLoggedFirst plain.functions [] (stores_in s (deeds_by w args o)) (first_by w args o)
-  firsts_by w args None = refl
-  firsts_by w args (Some g) =
-      are_firsts marks plain c.exact s [] (deeds_in plain s.ticks w args g)
-      (all_stores plain ((s.ticks + 1) * whole plain.functions) (code_start g args w s.ticks))
+  takes_by : (r : Bool) (w : PoolMap) (args : List ℤ) (o : Option ℕ) →
+      TakeRecords r plain.functions [] (stores_in s (deeds_by w args o)) (number_by r w args o)
+  takes_by r w args None = refl
+  takes_by r w args (Some g) =
+      they_take marks plain c.exact r s (deeds_in plain s.ticks w args g)
+      (all_stores plain ((s.ticks + 1) * whole plain.functions) (code_start g args w s.ticks)) []
 
   pub comes : (marked : Bool) (w : PoolMap) (tx : ℕ) (args : List ℤ) →
       (logged : ℕ) × (o : Outcome) × ComesBy marked program w tx args logged o
-  comes false w tx args =
-      let number : ℕ = number_by w args (lower.entry_in tx plain.functions) in (
+  comes marked w tx args =
+      let number : ℕ = number_by marked w args (lower.entry_in tx plain.functions) in (
         number,
         outcome_with program w tx args number,
-        record { logs = logs_by w args (lower.entry_in tx plain.functions); is = refl },
-      )
-  comes true w tx args =
-      let number : ℕ = first_by w args (lower.entry_in tx plain.functions) in (
-        number,
-        outcome_with program w tx args number,
-        record { logs = firsts_by w args (lower.entry_in tx plain.functions); is = refl },
+        record { logs = takes_by marked w args (lower.entry_in tx plain.functions); is = refl },
       )
 
-  -- the logged stores of the run of a transaction that the image has
+  -- those of the run of a transaction that the image has
   counted : (i : ℕ) (args : List ℤ) (w : PoolMap) (entry : TxEntry) →
-      slice_get program.image.parts.txs i ≡ Some entry →
-      LogsStores program w (suc i) args (number_by w args (Some entry.function))
-      × LogsFirst program w (suc i) args (first_by w args (Some entry.function))
-  counted i args w entry found =
+      slice_get program.image.parts.txs i ≡ Some entry → (r : Bool) →
+      LogsBy r program w (suc i) args (number_by r w args (Some entry.function))
+  counted i args w entry found r =
       let function : slice_get (lower.entries_from 0 plain.functions) i ≡ Some entry.function =
       sym (entries_same marks t tree 0 0 t.functions i)
       ∙ ap (λ (es : List TxEntry). option_map (λ (e : TxEntry). e.function) (slice_get es i))
-      (sym txs_are) ∙ ap (option_map (λ (e : TxEntry). e.function)) found in (
-        subst (λ (o : Option ℕ).
-            AreLogged plain.functions (stored_at (deeds_by w args o))
-            (number_by w args (Some entry.function))) (sym function)
-            (logs_by w args (Some entry.function)),
-        subst (λ (o : Option ℕ).
-            AreLoggedFirst plain.functions [] (stores_in s (deeds_by w args o))
-            (first_by w args (Some entry.function))) (sym function)
-            (firsts_by w args (Some entry.function)),
-      )
+      (sym txs_are) ∙ ap (option_map (λ (e : TxEntry). e.function)) found in
+      subst (λ (o : Option ℕ). TakeRecords r plain.functions [] (stores_in s (deeds_by w args o))
+      (number_by r w args (Some entry.function))) (sym function)
+      (takes_by r w args (Some entry.function))
 
   runs : (h : Words) (tx : ℕ) (args : List ℤ) → HasSourceHeaders program h
       → HasPoolWords (source_pool program h) → AreWords args
@@ -435,31 +401,17 @@ module _ (text : List ℕ) (list : Tokens) (program : Program)
           (subst HasResult (sym ends) (done_end o)) enough in
           let means_is : means program w (suc i) args ≡ outcome o =
           ap (λ (x : Option FunctionTree). outcome (run_transaction t x w args n)) e.named in
-          let number : ℕ = records_of (table.is_logged marks)
-          (deeds plain k (code_start entry.function args w n)) in
-          let same_outcome : (if nat_lt s.records number then meaning.Trap LogFull else outcome o)
-          ≡ outcome_with program w (suc i) args number =
-          ap (λ (x : Outcome). if nat_lt s.records number then meaning.Trap LogFull else x)
-          (sym means_is) in
           record {
             end = ran.end;
             effects = ran.effects;
             ran = ran.is;
             sound = ran.sound;
-            logged = number;
-            logs = (counted i args w entry found).0;
-            counted = ran.records;
-            firsts = records_with (table.is_logged marks) s []
-                (deeds plain k (code_start entry.function args w n));
-            logs_firsts = (counted i args w entry found).1;
-            counted_firsts = ran.firsts;
-            at_least = ran.at_least;
-            matches =
-                subst (λ (x : Outcome). Matches program x ran.end (heap_end h ran.effects))
-                same_outcome
-                (matched_if (nat_lt s.records number) o ran.end (heap_end h ran.effects)
-                (subst (λ (x : CodeEnd). EndsIf (nat_lt s.records number) program.image L x ran.end
-                (heap_end h ran.effects)) ends ran.agrees));
+            matches = subst (λ (x : Outcome). Matches program x ran.end (heap_end h ran.effects))
+                (sym means_is) (matched o ran.end (heap_end h ran.effects)
+                (subst (λ (x : CodeEnd). EndsAs program.image L x ran.end (heap_end h ran.effects))
+                ends ran.ends));
+            logs = λ r. subst (LogsBy r program w (suc i) args) (sym (ran.records r))
+                (counted i args w entry found r);
           }
 
   few_are : (tx n : ℕ) → tx_parameters program.image tx ≡ Some n → (tx < 2 ^ 63) × (n ≤ 22)

@@ -11,11 +11,11 @@ use Rattle.ir.specs.declared.site.Site.{Site}
 use Rattle.code_meaning.specs.Code.{Spot, InRoot, InSlot}
 use Rattle.code_meaning.specs.Deeds.{Deed}
 use Rattle.log_law.specs.covered.Covered.{IsInput, FirstStore}
-use Rattle.log_law.proofs.covered.Parts.{input_append, first_append}
 use Rattle.crash_law.specs.Effects as past
 use Rattle.pm_machine.specs.declared.effect.Effect.{Effect}
 use Rattle.pm_machine.specs.declared.effect.Effect.TheVariants.{Loads, Scans, Stores, Logs, Flushes}
 use Rattle.pm_machine.specs.declared.effect.Effect.TheVariants.{Fences, Quiet}
+use Rattle.pm_machine.specs.declared.records.Policy.TheVariants.{EndPool}
 use Rattle.pm_machine.specs.Find.{IsHeader}
 use Rattle.run_law.specs.Seen.{seen_all}
 use Rattle.run_law.proofs.Headers.{input_headers, headers_input, over_headers, headers_over}
@@ -24,7 +24,7 @@ use Rattle.run_law.proofs.Inputs.{input_seen, over_seen}
 use Rattle.run_law.specs.Sound.{IsCoveredRun}
 use Rattle.machine_law.specs.pieces.Stands.{place_of, heap_word, header_word}
 use Rattle.machine_law.specs.pieces.Shows.{IsThere, ShowsDeeds, done, looks, scans, reads, plain}
-use Rattle.machine_law.specs.pieces.Shows.{logs, heads, IsCutAtStore}
+use Rattle.machine_law.specs.pieces.Shows.{logs, heads}
 use Rattle.machine_law.specs.matching.Accesses.{accesses}
 
 -- the inputs and overwritten words of a run are those of its loads, stores and logs
@@ -233,20 +233,8 @@ module _ (apart : HeapApart) (s : Sizes) (logged : Site → Bool) where
   -- a run is covered
   pub covered_run : (ds : List Deed) (es : List Effect) → ShowsDeeds s logged ds (accesses es)
       → ((x : Spot) (a : Site) → IsInput ds x → FirstStore ds x a → logged a ≡ true)
-      → IsCoveredRun es
+      → IsCoveredRun EndPool es
   covered_run ds es shows need w input over =
       logged_accesses es w (covered w ds (accesses es) shows (λ x a at is. need x a)
       (input_accesses es w (input_seen es w input))
       (overwritten_accesses es w (over_seen es w over)))
-
--- a run that stops at a full log is covered too
-pub covered_cut : (apart : HeapApart) (s : Sizes) (logged : Site → Bool) (ds : List Deed)
-    (es : List Effect) → IsCutAtStore s logged ds (accesses es)
-    → ((x : Spot) (a : Site) → IsInput ds x → FirstStore ds x a → logged a ≡ true) → IsCoveredRun es
-covered_cut apart s logged ds es cut need =
-    covered_run apart s logged cut.before es cut.shows
-    (λ x a input first. need x a
-    (subst (λ (l : List Deed). IsInput l x) (sym cut.is)
-    (input_append cut.before (cut.due ∷ cut.later) x input))
-    (subst (λ (l : List Deed). FirstStore l x a) (sym cut.is)
-    (first_append cut.before (cut.due ∷ cut.later) x a first)))

@@ -1,12 +1,8 @@
--- The machine's run of a compiled transaction is sound, and ends as its code does, or with a full
--- log if the code does more logged stores than the log has records.
+-- The machine's run of a compiled transaction is sound, and ends as its code does.
 use Rattle.std.proofs.Common.{◌≡◌, ℕ, zero, suc, ◌*◌, ◌-◌, ◌<◌, ◌≤◌, Bool, ℤ, true, false, nat_lt}
 use Rattle.std.proofs.Common.{List, [], Some, refl, sym, ◌∙◌, subst, inl, inr, arith}
 use Rattle.std.specs.Prelude.{slice_get}
-use Rattle.std.proofs.lemmas.Bool.{lt-ltb, le-ltb}
 use Rattle.cache_model.specs.Cache.{Words}
-use Rattle.pool_map.specs.declared.trap.TrapKind.{TrapKind}
-use Rattle.pool_map.specs.declared.trap.TrapKind.TheVariants.{LogFull}
 use Rattle.pool_map.specs.PoolFits.{PoolFits}
 use Rattle.pool_map.specs.PoolMap.{PoolMap}
 use Rattle.pool_layout.specs.Places.{HeapApart}
@@ -36,131 +32,76 @@ use Rattle.pm_machine.specs.declared.image.Image.{Image}
 use Rattle.pm_machine.specs.declared.op.TxEntry.{TxEntry}
 use Rattle.pm_machine.specs.Machine.{Run, Finished, mrun}
 use Rattle.pm_machine.specs.Machine as machine
-use Rattle.pm_machine.specs.Effects.{heap_end, records_end}
+use Rattle.pm_machine.specs.Effects.{heap_end}
+use Rattle.pm_machine.specs.Logging.{blank, takes}
 use Rattle.pm_machine.proofs.Fuel.{more_fuel}
-use Rattle.run_law.specs.Sound.{IsCoveredRun, IsSoundRun}
+use Rattle.run_law.specs.Sound.{IsSoundRun}
+use Rattle.cnvm_session.specs.Marks.{policy_of}
 use Rattle.machine_law.proofs.emitted.SoundRun.{sound_run}
 use Rattle.machine_law.specs.pieces.Stands.{Stands}
 use Rattle.machine_law.specs.pieces.Words.{HoldWords, HasWords, IsWordState, IsWordEnd, IsWordMove}
 use Rattle.machine_law.specs.pieces.Words.{WordsLaw}
-use Rattle.machine_law.specs.pieces.Shows.{ShowsDeeds, IsCutAtStore}
+use Rattle.machine_law.specs.pieces.Shows.{ShowsDeeds}
 use Rattle.machine_law.specs.matching.Accesses.{accesses}
 use Rattle.machine_law.specs.matching.Compiled.{IsCodeOf, is_logged_in_code}
-use Rattle.machine_law.specs.matching.Law.{RunMatches, RunFull, KeepLaw}
+use Rattle.machine_law.specs.matching.Law.{RunMatches, KeepLaw}
 use Rattle.machine_law.specs.matching.Match.{most}
-use Rattle.abort_law.specs.Records.{records_marked}
-use Rattle.compiled_law.specs.inside.Records.{records_of, records_with}
-use Rattle.compiled_law.specs.inside.Runs.{EndsAs, EndsIf, RunIs}
-use Rattle.compiled_law.proofs.Bounded.{run_bounded}
-use Rattle.compiled_law.proofs.Counting.{records_are, records_cut}
-use Rattle.compiled_law.proofs.Firsts.{firsts_are, records_least}
-use Rattle.compiled_law.proofs.Covering.{covered_run, covered_cut}
+use Rattle.compiled_law.specs.inside.Records.{asked_of, fresh}
+use Rattle.compiled_law.specs.inside.Runs.{EndsAs, RunIs}
+use Rattle.compiled_law.proofs.Recording.{records_are}
+use Rattle.compiled_law.proofs.Covering.{covered_run}
 use Rattle.compiled_law.proofs.Marked.{inputs_logged}
-
-trapped : (k : TrapKind) (v : ℤ) → Trapped k ≡ Halted v → ⊥
-trapped k v e = cc
-
-both : (b : Bool) → b ≡ true → b ≡ false → ⊥
-both b t f = let clash : true ≡ false = sym t ∙ f in absurd cc
 
 module _ (apart : HeapApart) (image : Image) (L : Ir) (compiled : IsCodeOf image L) (tx : ℕ)
     (entry : TxEntry) (found : slice_get image.parts.txs (tx - 1) ≡ Some entry) (args : List ℤ)
     (heap : Words) (m : ℕ) (ds : List Deed) (need : (x : Spot) (a : Site) → IsInput ds x
     → FirstStore ds x a → is_logged_in_code L a ≡ true)
-    (n : ℕ) (count : (es : List Effect) → ShowsDeeds image.parts.sizes (is_logged_in_code L) ds
-    (accesses es) → records_end 0 es ≡ n) (more : (es : List Effect)
-    → IsCutAtStore image.parts.sizes (is_logged_in_code L) ds (accesses es)
-    → records_end 0 es < n) (n1 : ℕ) (count_firsts : (es : List Effect)
+    (n : Bool → ℕ) (count : (r : Bool) (es : List Effect)
     → ShowsDeeds image.parts.sizes (is_logged_in_code L) ds (accesses es)
-    → records_marked [] es ≡ n1) (least : n ≤ n1) where
-  sound_end : (end : End) (es : List Effect) → mrun image m heap tx args ≡ Finished end es
-      → IsCoveredRun es → IsSoundRun end es
-  sound_end end es is covered =
+    → takes (blank (policy_of r)) es ≡ n r) where
+  run_with : (e : code.CodeEnd) (end : End) (es : List Effect)
+      → mrun image m heap tx args ≡ Finished end es
+      → ShowsDeeds image.parts.sizes (is_logged_in_code L) ds (accesses es)
+      → EndsAs image L e end (heap_end heap es)
+      → RunIs image L heap e n (mrun image m heap tx args)
+  run_with e end es is shows ends =
       let shape = sound_run image image.parts.sizes L m heap tx entry args end es compiled.code
       found is in
-      record { covered = covered; paired = shape.0; tidy = shape.1 }
-
-  -- all records are written, and one more store is to be logged
-  too_many : (r : RunFull image L ds (mrun image m heap tx args)) →
-      nat_lt image.parts.sizes.records n ≡ true
-  too_many r = lt-ltb image.parts.sizes.records n (omega (arith, r.records, more r.effects r.cut))
-
-  -- a run that finishes writes as many records as the whole run has logged stores
-  has_room : (end : End) (es : List Effect) → mrun image m heap tx args ≡ Finished end es →
-      ShowsDeeds image.parts.sizes (is_logged_in_code L) ds (accesses es) →
-      nat_lt image.parts.sizes.records n ≡ false
-  has_room end es is shows =
-      le-ltb image.parts.sizes.records n
-      (omega (arith, count es shows, run_bounded image m tx args heap end es is))
-
-  with_room : (e : code.CodeEnd) (end : End) (h : Words)
-      → nat_lt image.parts.sizes.records n ≡ false →
-      EndsAs image L e end h → EndsIf (nat_lt image.parts.sizes.records n) image L e end h
-  with_room e end h room ends = subst (λ (b : Bool). EndsIf b image L e end h) (sym room) ends
-
-  full : (e : code.CodeEnd) → RunFull image L ds (mrun image m heap tx args) →
-      RunIs image L heap e n n1 (mrun image m heap tx args)
-  full e r = record {
-    end = Trapped LogFull;
-    effects = r.effects;
-    is = r.is;
-    sound = sound_end (Trapped LogFull) r.effects r.is
-        (covered_cut apart image.parts.sizes (is_logged_in_code L) ds r.effects r.cut need);
-    agrees =
-        subst (λ (b : Bool). EndsIf b image L e (Trapped LogFull) (heap_end heap r.effects))
-        (sym (too_many r)) refl;
-    records = λ v e. absurd (trapped LogFull v e);
-    firsts = λ room. absurd (both (nat_lt image.parts.sizes.records n) (too_many r) room);
-    at_least = least;
-  }
+      record {
+        end = end;
+        effects = es;
+        is = is;
+        sound = record {
+          covered = covered_run apart image.parts.sizes (is_logged_in_code L) ds es shows need;
+          paired = shape.0;
+          tidy = shape.1;
+        };
+        ends = ends;
+        records = λ r. count r es shows;
+      }
 
   run_is : (e : code.CodeEnd) → HasResult e → IsWordEnd e
       → RunMatches image L heap ds e (mrun image m heap tx args)
-      → RunIs image L heap e n n1 (mrun image m heap tx args)
-  run_is (code.Ended w v t) over words (inl r) = record {
-    end = Halted v;
-    effects = r.effects;
-    is = r.is;
-    sound = sound_end (Halted v) r.effects r.is
-        (covered_run apart image.parts.sizes (is_logged_in_code L) ds r.effects r.shows need);
-    agrees =
-        with_room (code.Ended w v t) (Halted v) (heap_end heap r.effects)
-        (has_room (Halted v) r.effects r.is r.shows) (refl, r.stands, r.fits, words.0);
-    records = λ x e. count r.effects r.shows;
-    firsts = λ room. count_firsts r.effects r.shows;
-    at_least = least;
-  }
-  run_is (code.Ended w v t) over words (inr r) = full (code.Ended w v t) r
-  run_is (code.Trapped k) over words (inl r) = record {
-    end = Trapped k;
-    effects = r.effects;
-    is = r.is;
-    sound = sound_end (Trapped k) r.effects r.is
-        (covered_run apart image.parts.sizes (is_logged_in_code L) ds r.effects r.shows need);
-    agrees =
-        with_room (code.Trapped k) (Trapped k) (heap_end heap r.effects)
-        (has_room (Trapped k) r.effects r.is r.shows) refl;
-    records = λ v e. absurd (trapped k v e);
-    firsts = λ room. count_firsts r.effects r.shows;
-    at_least = least;
-  }
-  run_is (code.Trapped k) over words (inr r) = full (code.Trapped k) r
+      → RunIs image L heap e n (mrun image m heap tx args)
+  run_is (code.Ended w v t) over words r =
+      run_with (code.Ended w v t) (Halted v) r.effects r.is r.shows
+      (refl, r.stands, r.fits, words.0)
+  run_is (code.Trapped k) over words r =
+      run_with (code.Trapped k) (Trapped k) r.effects r.is r.shows refl
   run_is code.Unfinished over words r = absurd over
   run_is code.Stuck over words r = absurd over
 
 -- a larger bound on steps changes nothing
-run_more : (image : Image) (L : Ir) (heap : Words) (e : code.CodeEnd) (n n1 k m tx : ℕ)
-    (args : List ℤ) → k ≤ m → RunIs image L heap e n n1 (mrun image k heap tx args)
-    → RunIs image L heap e n n1 (mrun image m heap tx args)
-run_more image L heap e n n1 k m tx args le r = record {
+run_more : (image : Image) (L : Ir) (heap : Words) (e : code.CodeEnd) (n : Bool → ℕ) (k m tx : ℕ)
+    (args : List ℤ) → k ≤ m → RunIs image L heap e n (mrun image k heap tx args)
+    → RunIs image L heap e n (mrun image m heap tx args)
+run_more image L heap e n k m tx args le r = record {
   end = r.end;
   effects = r.effects;
-  is = more_fuel image k m 0 (machine.start image tx args) heap r.end r.effects le r.is;
+  is = more_fuel image k m (machine.start image tx args) heap r.end r.effects le r.is;
   sound = r.sound;
-  agrees = r.agrees;
+  ends = r.ends;
   records = r.records;
-  firsts = r.firsts;
-  at_least = r.at_least;
 }
 
 -- a run on words ends with words
@@ -191,10 +132,8 @@ pub compiled_run : HeapApart → CoverLaw → KeepLaw → WordsLaw → (marks : 
     → 2 * k * most ≤ m →
     RunIs image (logged_program marks ir) heap
     (exec ir k (code_start entry.function args w image.parts.sizes.ticks))
-    (records_of (table.is_logged marks)
-    (deeds ir k (code_start entry.function args w image.parts.sizes.ticks)))
-    (records_with (table.is_logged marks) image.parts.sizes []
-    (deeds ir k (code_start entry.function args w image.parts.sizes.ticks)))
+    (λ r. fresh [] (asked_of r (table.is_logged marks) image.parts.sizes
+    (deeds ir k (code_start entry.function args w image.parts.sizes.ticks))))
     (mrun image m heap tx args)
 compiled_run apart cover keep law marks ir formed keeps whole constants bare image compiled tx entry
     found transaction args heap w words pool stands fits k m over enough =
@@ -202,39 +141,22 @@ compiled_run apart cover keep law marks ir formed keeps whole constants bare ima
     let t : ℕ = image.parts.sizes.ticks in
     let same = same_end marks ir entry.function args w t k over in
     let kept = keep image L (2 * k) tx entry args heap w compiled found words pool stands fits in
-    let n : ℕ = records_of (table.is_logged marks)
-    (deeds ir k (code_start entry.function args w t)) in
-    let count : (es : List Effect)
-    → ShowsDeeds image.parts.sizes (is_logged_in_code L)
-    (deeds L (2 * k) (code_start entry.function args w t)) (accesses es) → records_end 0 es ≡ n =
-    λ es shows.
-    records_are marks ir bare image.parts.sizes k (code_start entry.function args w t) es
-    (subst (λ (ds : List Deed). ShowsDeeds image.parts.sizes (is_logged_in_code L) ds
-    (accesses es)) (same_deeds marks ir entry.function args w t k over) shows) in
-    let more : (es : List Effect) → IsCutAtStore image.parts.sizes (is_logged_in_code L)
-    (deeds L (2 * k) (code_start entry.function args w t)) (accesses es) → records_end 0 es < n =
-    λ es cut.
-    records_cut marks ir bare image.parts.sizes k (code_start entry.function args w t) es
-    (subst (λ (ds : List Deed). IsCutAtStore image.parts.sizes (is_logged_in_code L) ds
-    (accesses es)) (same_deeds marks ir entry.function args w t k over) cut) in
-    let n1 : ℕ = records_with (table.is_logged marks) image.parts.sizes []
-    (deeds ir k (code_start entry.function args w t)) in
-    let firsts : (es : List Effect)
+    let n : Bool → ℕ = λ r. fresh [] (asked_of r (table.is_logged marks) image.parts.sizes
+    (deeds ir k (code_start entry.function args w t))) in
+    let count : (r : Bool) (es : List Effect)
     → ShowsDeeds image.parts.sizes (is_logged_in_code L)
     (deeds L (2 * k) (code_start entry.function args w t)) (accesses es)
-    → records_marked [] es ≡ n1 =
-    λ es shows.
-    firsts_are marks ir bare image.parts.sizes k (code_start entry.function args w t) es
+    → takes (blank (policy_of r)) es ≡ n r =
+    λ r es shows.
+    records_are marks ir bare r image.parts.sizes k (code_start entry.function args w t) es
     (subst (λ (ds : List Deed). ShowsDeeds image.parts.sizes (is_logged_in_code L) ds
     (accesses es)) (same_deeds marks ir entry.function args w t k over) shows) in
-    run_more image L heap (exec ir k (code_start entry.function args w t)) n n1 (2 * k * most) m tx
+    run_more image L heap (exec ir k (code_start entry.function args w t)) n (2 * k * most) m tx
     args enough
     (run_is apart image L compiled tx entry found args heap (2 * k * most)
     (deeds L (2 * k) (code_start entry.function args w t))
     (inputs_logged cover marks ir formed keeps whole entry.function transaction args w t k over) n
-    count more n1 firsts
-    (records_least (table.is_logged marks) image.parts.sizes []
-    (deeds ir k (code_start entry.function args w t)))
+    count
     (exec ir k (code_start entry.function args w t)) over
     (words_end law ir constants k (code_start entry.function args w t) (words, tt, pool))
     (subst (λ (e : code.CodeEnd). RunMatches image L heap

@@ -1,7 +1,6 @@
 -- Each compiled program agrees with its source: from every heap with valid headers the machine's
--- run of a transaction is sound. It ends as the source says, on a heap that holds the source's
--- pool, with one log record for each of its logged stores; or with a full log, exactly if these
--- stores are more than the log has records.
+-- run of a transaction is sound, and ends as the source says, on a heap that holds the source's
+-- pool; and as many words take a record in it as the source's stores tell.
 use Rattle.std.specs.Prelude.{◌≡◌, ℕ, ℤ, Bool, List, [], length, map}
 use Rattle.c_lexer.specs.TokenList.{Tokens}
 use Rattle.c_constants.specs.Left.{LeavesTokens}
@@ -42,8 +41,8 @@ abbrev pub CompiledLaw : Type 0
 CompiledLaw = (text : List ℕ) (list : Tokens) (program : Program)
     → IsCompiledFrom text list program → Agrees program
 
--- On every pool each transaction of a compiled program, marked or not, has a number of logged
--- stores and an outcome.
+-- On every pool each transaction of a compiled program, marked or not, has a number of words that
+-- take a record, and an outcome.
 abbrev pub ComesLaw : Type 0
 ComesLaw = (text : List ℕ) (list : Tokens) (program : Program) → IsCompiledFrom text list program
     → (marked : Bool) (pool : PoolMap) (tx : ℕ) (args : List ℤ)

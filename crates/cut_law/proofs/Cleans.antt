@@ -20,7 +20,7 @@ use Rattle.crash_law.proofs.Clean as whole
 use Rattle.recovery.specs.Due.{due_clean}
 use Rattle.cut_law.specs.Law.{pool_with}
 use Rattle.cut_law.proofs.Misses.{view_one}
-use Rattle.cut_law.proofs.Dues.{attempt_small}
+use Rattle.cut_law.proofs.Numbers.{attempt_small}
 
 clean_same : (z : Sizes) (c : Cache) (a n : ℕ) → view c ATTEMPT ≡ pos a → (0 < n → a < 2 ^ 62) →
     due_clean z n c ≡ crash.clean_events z a n

@@ -1,7 +1,9 @@
 pub mod Misses
+pub mod Numbers
+pub mod Backs
+pub mod Holds
 pub mod Dues
 pub mod Cuts
-pub mod Backs
 pub mod Redoes
 pub mod Cleans
 pub mod Recoveries

@@ -2,6 +2,7 @@
 use Rattle.std.specs.Prelude.{ℕ, ◌≤◌, List, ℤ}
 use Rattle.cache_model.specs.Event.{CacheEvent}
 use Rattle.pmem.specs.Device.{Device, FaultsRose}
+use Rattle.pm_machine.specs.declared.records.Policy.{Policy}
 use Rattle.pm_machine.specs.declared.image.Image.{Image}
 use Rattle.tx_run.specs.declared.answer.CallAnswer.{CallAnswer}
 use Rattle.tx_run.specs.declared.answer.CallAnswer.TheVariants as call
@@ -12,15 +13,15 @@ use Rattle.recovery.specs.Recovered.{Cleaned, Redid}
 
 abbrev pub CallFaults : Type 0
 CallFaults =
-    (image : Image) (tx : ℕ) (args : List ℤ) (d b : Device) (k k1 : ℕ) →
-    ((answer : CallAnswer) → Called answer image tx args d b k k1 → d.faults ≤ b.faults)
-    × (Called call.Failed image tx args d b k k1 → FaultsRose d.faults b.faults)
+    (p : Policy) (image : Image) (tx : ℕ) (args : List ℤ) (d b : Device) (k k1 : ℕ) →
+    ((answer : CallAnswer) → Called answer p image tx args d b k k1 → d.faults ≤ b.faults)
+    × (Called call.Failed p image tx args d b k k1 → FaultsRose d.faults b.faults)
 
 abbrev pub RedoFaults : Type 0
 RedoFaults =
-    (image : Image) (tx : ℕ) (args : List ℤ) (m : ℕ) (d b : Device) (k k1 : ℕ) →
-    ((answer : RecoverAnswer) → Redid answer image tx args m d b k k1 → d.faults ≤ b.faults)
-    × (Redid recover.Failed image tx args m d b k k1 → FaultsRose d.faults b.faults)
+    (p : Policy) (image : Image) (tx : ℕ) (args : List ℤ) (m : ℕ) (d b : Device) (k k1 : ℕ) →
+    ((answer : RecoverAnswer) → Redid answer p image tx args m d b k k1 → d.faults ≤ b.faults)
+    × (Redid recover.Failed p image tx args m d b k k1 → FaultsRose d.faults b.faults)
 
 abbrev pub CleanFaults : Type 0
 CleanFaults =

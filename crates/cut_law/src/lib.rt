@@ -4,7 +4,7 @@
 //! has come to its end.
 #![tactic(auto)]
 
-ghost use Rattle.cut_law.specs.Law.{DueCallLaw, CutCallLaw, CutRedoLaw, CutCleanLaw, RestCallLaw};
+ghost use Rattle.cut_law.specs.Law.{DueCallLaw, CutCallLaw, CutRedoLaw, CutCleanLaw, RestLaw};
 ghost use Rattle.cut_law.specs.Law.{CutAgainLaw};
 ghost use Rattle.cut_law.specs.Leaves.{CallLeavesLaw, RedoLeavesLaw};
 ghost use Rattle.cut_law.specs.Faults.{CallFaults, RedoFaults, CleanFaults};
@@ -16,7 +16,7 @@ pub fn law()
     ensures cut { CutCallLaw }
     ensures redo { CutRedoLaw }
     ensures clean { CutCleanLaw }
-    ensures rest { RestCallLaw }
+    ensures rest { RestLaw }
     ensures again { CutAgainLaw }
     ensures called { CallLeavesLaw }
     ensures redid { RedoLeavesLaw }

@@ -175,7 +175,7 @@ abbrev mutual
       let q : ℕ = exp_end a p in
       exp_code s v a p ++ form_code (form_of o) s.node (exp_code s v b) (exp_end b) (reg_of s v b)
       (reg_of s v a q) q
-  -- a branch over the left side, and behind each side a copy to one register
+  -- a branch over the left side, and after each side a copy to one register
   exp_code s v (expr.Conditional c place a b) p =
       let p1 : ℕ = exp_end c p in
       let p2 : ℕ = exp_end a (suc p1) in

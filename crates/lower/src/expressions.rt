@@ -373,7 +373,7 @@ fn add_either(
     Ok(to)
 }
 
-/// Appends the left side of `?` behind a branch over it; the condition is in the register `on`.
+/// Appends the left side of `?` after a branch over it; the condition is in the register `on`.
 #[cycle(expressions)]
 #[tactic(auto, using(crate::proofs::ExprAdds::expressions))]
 fn add_left_side(
@@ -394,7 +394,7 @@ fn add_left_side(
     Ok(left)
 }
 
-/// Appends the right side of `?`, and behind each side a copy to the same register; the left side
+/// Appends the right side of `?`, and after each side a copy to the same register; the left side
 /// is in the register `left`.
 #[cycle(expressions)]
 #[tactic(auto, using(crate::proofs::ExprAdds::expressions))]

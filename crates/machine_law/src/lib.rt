@@ -16,7 +16,7 @@ ghost use Rattle.machine_law.specs.emitted.Tidy.{TidyLaw};
 ghost use Rattle.machine_law.specs.emitted.TidyCode.{EmitsTidy, SoundRunLaw};
 ghost use Rattle.machine_law.specs.pieces.Law.{PieceLaw};
 ghost use Rattle.machine_law.specs.pieces.Pools.{FitsLaw, HeadersLaw, PoolLaw};
-ghost use Rattle.machine_law.specs.pieces.Shows.{CutsLaw, ShowsLaw};
+ghost use Rattle.machine_law.specs.pieces.Shows.{ShowsLaw};
 ghost use Rattle.machine_law.specs.pieces.Words.{WordsLaw};
 ghost use Rattle.machine_law.specs.matching.Law.{KeepLaw};
 ghost use Rattle.machine_law.specs.matching.Match.{MatchLaw};
@@ -84,8 +84,7 @@ pub fn piece_law()
 
 /// If effects show deeds part by part, they show them together.
 pub fn shows_law()
-    ensures whole { ShowsLaw }
-    ensures cut { CutsLaw }
+    ensures { ShowsLaw }
 {}
 
 /// A heap with valid headers stands for exactly one pool that fits; each instruction leaves a pool
@@ -98,15 +97,13 @@ pub fn pools_law()
 {}
 
 /// From states that match, one step of the code and at most 40 steps of the machine (and, at an
-/// end, one more for each dirty line) lead to states that match, or to the same end, or to a full
-/// log.
+/// end, one more for each dirty line) lead to states that match, or to the same end.
 pub fn step_law()
     ensures { MatchLaw }
 {}
 
 /// The machine's run of a transaction of emitted code ends as its intermediate code does, with a
-/// heap that stands for the code's pool and loads and stores that show the code's, or with a full
-/// log.
+/// heap that stands for the code's pool and loads and stores that show the code's.
 pub fn keep_law()
     ensures { KeepLaw }
 {}

@@ -11,11 +11,8 @@ use Rattle.codegen.specs.Emit.{txs_from}
 use Rattle.machine_law.proofs.matching.Compiled.{function_is, made_here}
 use Rattle.step_law.specs.Law.{CanBegin}
 use Rattle.step_law.proofs.Runs.{run_law}
-use Rattle.step_law.proofs.Marked.{marked_law}
 use Rattle.step_law.proofs.Events.{events_law}
-use Rattle.step_law.proofs.MarkedEvents.{marked_events}
-use Rattle.native_law.specs.Law.{IsCompiledCall, CompiledRunLaw, CompiledMarkedLaw}
-use Rattle.native_law.specs.Law.{CompiledEventsLaw, CompiledMarkedEventsLaw}
+use Rattle.native_law.specs.Law.{IsCompiledCall, CompiledRunLaw, CompiledEventsLaw}
 use Rattle.native_law.proofs.Printable.{printable}
 
 -- the entry is that of one of these functions, the first of which has number f
@@ -78,17 +75,9 @@ can_begin image heap tx args call =
     }
 
 pub compiled_run : CompiledRunLaw
-compiled_run image k heap tx args call =
-    run_law image k heap tx args (can_begin image heap tx args call)
-
-pub compiled_marked : CompiledMarkedLaw
-compiled_marked image k heap tx args call =
-    marked_law image k heap tx args (can_begin image heap tx args call)
+compiled_run p image k heap tx args call =
+    run_law p image k heap tx args (can_begin image heap tx args call)
 
 pub compiled_events : CompiledEventsLaw
-compiled_events image a k heap tx args call =
-    events_law image a k heap tx args (can_begin image heap tx args call)
-
-pub compiled_marked_events : CompiledMarkedEventsLaw
-compiled_marked_events image a k heap tx args call =
-    marked_events image a k heap tx args (can_begin image heap tx args call)
+compiled_events p image a k heap tx args call =
+    events_law p image a k heap tx args (can_begin image heap tx args call)

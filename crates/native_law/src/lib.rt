@@ -3,8 +3,7 @@
 //! one contract for the crates above: the laws of `specs/Law.antt`.
 #![tactic(auto)]
 
-ghost use Rattle.native_law.specs.Law.{CompiledRunLaw, CompiledMarkedLaw};
-ghost use Rattle.native_law.specs.Law.{CompiledEventsLaw, CompiledMarkedEventsLaw};
+ghost use Rattle.native_law.specs.Law.{CompiledRunLaw, CompiledEventsLaw};
 
 use pm_machine::Op;
 
@@ -12,7 +11,5 @@ use pm_machine::Op;
 /// nothing.
 pub fn law()
     ensures run { CompiledRunLaw }
-    ensures marked { CompiledMarkedLaw }
     ensures events { CompiledEventsLaw }
-    ensures marked_events { CompiledMarkedEventsLaw }
 {}

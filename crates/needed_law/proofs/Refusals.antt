@@ -1,6 +1,6 @@
 -- A `power` whose recovery is refused plays nothing; and the opening of an image is never stopped.
 use Rattle.std.proofs.Common.{◌≡◌, ℕ, Bool, true, false, Option, Some, None, List, ℤ, refl, sym}
-use Rattle.std.proofs.Common.{ap, ◌∙◌, subst, ◌&&◌, append-nil}
+use Rattle.std.proofs.Common.{ap, ◌∙◌, subst, append-nil}
 use Rattle.cache_model.specs.Event.{CacheEvent}
 use Rattle.cache_model.specs.Cache.{Words, view}
 use Rattle.cache_model.specs.Collapse.{bad}
@@ -13,23 +13,19 @@ use Rattle.pmem.specs.declared.answer.Phase.TheVariants as phase
 use Rattle.pmem.specs.declared.answer.Refusal.TheVariants as refusal
 use Rattle.pmem.proofs.Refused.{all_done, went_off}
 use Rattle.pool_layout.specs.Sizes.{pool_lines}
-use Rattle.pool_layout.specs.Image.{is_sealed}
 use Rattle.pool_map.specs.declared.trap.TrapKind.{TrapKind}
+use Rattle.pm_machine.specs.declared.records.Policy.{Policy}
 use Rattle.pm_machine.specs.declared.image.Image.{Image}
 use Rattle.recovery.specs.declared.answer.RecoverAnswer.{RecoverAnswer}
 use Rattle.recovery.specs.declared.answer.RecoverAnswer.TheVariants as recovered
-use Rattle.recovery.specs.Recovered.{Cleaned, Redid, IsRecovered, tx_in}
-use Rattle.abort_mode.specs.Answers.{AbortRedid, IsAbortRedone}
-use Rattle.abort_mode.specs.declared.answer.AbortAnswer.{AbortAnswer}
-use Rattle.abort_mode.specs.declared.answer.AbortAnswer.TheVariants as marked
+use Rattle.recovery.specs.Recovered.{Cleaned, Redid, IsRecovered}
 use Rattle.cnvm_session.specs.declared.mode.Mode.{Mode}
 use Rattle.cnvm_session.specs.declared.mode.Mode.TheVariants as mode
 use Rattle.cnvm_session.specs.declared.answer.Answer.TheVariants as answer
 use Rattle.cnvm_session.specs.declared.program.Program.{Program}
-use Rattle.cnvm_session.specs.Marks.{rolls_back_of, owes_marked}
+use Rattle.cnvm_session.specs.Marks.{policy_of, owes_marked}
 use Rattle.cnvm_session.specs.Opening.{opening_events}
 use Rattle.cnvm_session.specs.Outcomes.{RecoversBy, answer_of_recovery, mode_of_recovery}
-use Rattle.cnvm_session.specs.Outcomes.{answer_of_marked_recovery, mode_of_marked_recovery}
 use Rattle.cnvm_session.specs.Commands as commanded
 use Rattle.cnvm_session.specs.Commands.{fallen}
 use Rattle.cnvm_session.proofs.Cases.{by_found}
@@ -39,25 +35,17 @@ use Rattle.needed_law.specs.Answered.{PowerUnusableLaw, PowerNumbersLaw}
 use Rattle.needed_law.specs.Answered.{UncutOpeningLaw}
 use Rattle.needed_law.proofs.Determined.{true_not_false}
 
--- a recovery, marked or not, that is refused
+-- a recovery that is refused
 IsIdle : RecoverAnswer → Type 0
 IsIdle (recovered.Unusable kind) = Unit {0}
 IsIdle recovered.Numbers = Unit {0}
 IsIdle recovered.Clean = ⊥
 IsIdle (recovered.Redone v l) = ⊥
 IsIdle (recovered.Trap kind) = ⊥
+IsIdle (recovered.Aborted kind) = ⊥
 IsIdle (recovered.Off at) = ⊥
 IsIdle recovered.Failed = ⊥
 IsIdle recovered.NoMemory = ⊥
-
-IsMarkedIdle : AbortAnswer → Type 0
-IsMarkedIdle (marked.Unusable kind) = Unit {0}
-IsMarkedIdle marked.Numbers = Unit {0}
-IsMarkedIdle (marked.Done v l) = ⊥
-IsMarkedIdle (marked.Aborted kind) = ⊥
-IsMarkedIdle (marked.Off at) = ⊥
-IsMarkedIdle marked.Failed = ⊥
-IsMarkedIdle marked.NoMemory = ⊥
 
 no_cleaned : (r : RecoverAnswer) (d b : Device) (es : List CacheEvent) → IsIdle r
     → Cleaned r d es b → ⊥
@@ -67,54 +55,34 @@ no_cleaned recovered.Numbers d b es is h = h
 no_cleaned recovered.Clean d b es is h = is
 no_cleaned (recovered.Redone v l) d b es is h = is
 no_cleaned (recovered.Trap kind) d b es is h = is
+no_cleaned (recovered.Aborted kind) d b es is h = is
 no_cleaned (recovered.Off at) d b es is h = is
 no_cleaned recovered.Failed d b es is h = is
 no_cleaned recovered.NoMemory d b es is h = is
 
-no_redid : (r : RecoverAnswer) (image : Image) (tx : ℕ) (args : List ℤ) (n : ℕ) (d b : Device)
-    (k k1 : ℕ) → IsIdle r → Redid r image tx args n d b k k1 → ⊥
+no_redid : (r : RecoverAnswer) (p : Policy) (image : Image) (tx : ℕ) (args : List ℤ) (n : ℕ)
+    (d b : Device) (k k1 : ℕ) → IsIdle r → Redid r p image tx args n d b k k1 → ⊥
 unfolding IsIdle
-no_redid (recovered.Unusable kind) image tx args n d b k k1 is h = h
-no_redid recovered.Numbers image tx args n d b k k1 is h = h
-no_redid recovered.Clean image tx args n d b k k1 is h = is
-no_redid (recovered.Redone v l) image tx args n d b k k1 is h = is
-no_redid (recovered.Trap kind) image tx args n d b k k1 is h = is
-no_redid (recovered.Off at) image tx args n d b k k1 is h = is
-no_redid recovered.Failed image tx args n d b k k1 is h = is
-no_redid recovered.NoMemory image tx args n d b k k1 is h = is
+no_redid (recovered.Unusable kind) p image tx args n d b k k1 is h = h
+no_redid recovered.Numbers p image tx args n d b k k1 is h = h
+no_redid recovered.Clean p image tx args n d b k k1 is h = is
+no_redid (recovered.Redone v l) p image tx args n d b k k1 is h = is
+no_redid (recovered.Trap kind) p image tx args n d b k k1 is h = is
+no_redid (recovered.Aborted kind) p image tx args n d b k k1 is h = is
+no_redid (recovered.Off at) p image tx args n d b k k1 is h = is
+no_redid recovered.Failed p image tx args n d b k k1 is h = is
+no_redid recovered.NoMemory p image tx args n d b k k1 is h = is
 
-no_marked_redid : (r : AbortAnswer) (image : Image) (tx : ℕ) (args : List ℤ) (n : ℕ)
-    (d b : Device) (k k1 : ℕ) → IsMarkedIdle r → AbortRedid r image tx args n d b k k1 → ⊥
-unfolding IsMarkedIdle
-no_marked_redid (marked.Unusable kind) image tx args n d b k k1 is h = h
-no_marked_redid marked.Numbers image tx args n d b k k1 is h = h
-no_marked_redid (marked.Done v l) image tx args n d b k k1 is h = is
-no_marked_redid (marked.Aborted kind) image tx args n d b k k1 is h = is
-no_marked_redid (marked.Off at) image tx args n d b k k1 is h = is
-no_marked_redid marked.Failed image tx args n d b k k1 is h = is
-no_marked_redid marked.NoMemory image tx args n d b k k1 is h = is
-
-idle_recovery : (r : RecoverAnswer) (image : Image) (d b : Device) (k k1 : ℕ) → IsIdle r
-    → IsRecovered r image d b k k1 → (b ≡ d) × (k1 ≡ k)
-idle_recovery r image d b k k1 is h = by_found ((b ≡ d) × (k1 ≡ k)) image d
+idle_recovery : (r : RecoverAnswer) (p : Policy) (image : Image) (d b : Device) (k k1 : ℕ)
+    → IsIdle r → IsRecovered r p image d b k k1 → (b ≡ d) × (k1 ≡ k)
+idle_recovery r p image d b k k1 is h = by_found ((b ≡ d) × (k1 ≡ k)) image d
     (λ on mark. let same = h.unusable on mark in (same.1, same.2))
     (λ on mark out. let same = h.numbers on mark out in (same.1, same.2))
     (λ on mark fit unsealed. absurd (no_cleaned r d b _ is (h.clean on mark fit unsealed)))
-    (λ on mark fit sealed named. absurd (no_redid r image _ _ _ d b k k1 is
+    (λ on mark fit sealed named. absurd (no_redid r p image _ _ _ d b k k1 is
     (h.redid on mark fit sealed named)))
     (λ on mark fit sealed unnamed. let same = h.unnamed on mark fit sealed unnamed in
     (same.1, same.2))
-    (λ off. let same = h.off off in (same.1, same.2))
-
-idle_marked : (r : AbortAnswer) (image : Image) (d b : Device) (k k1 : ℕ) → IsMarkedIdle r
-    → is_sealed (view d.cache) ≡ true → IsAbortRedone r image d b k k1 → (b ≡ d) × (k1 ≡ k)
-idle_marked r image d b k k1 is seal h = by_found ((b ≡ d) × (k1 ≡ k)) image d
-    (λ on mark. let same = h.unusable on mark in (same.1, same.2))
-    (λ on mark out. let same = h.numbers on mark out in (same.1, same.2))
-    (λ on mark fit unsealed. absurd (true_not_false (sym seal ∙ unsealed)))
-    (λ on mark fit sealed named. absurd (no_marked_redid r image _ _ _ d b k k1 is
-    (h.redid on mark fit named)))
-    (λ on mark fit sealed unnamed. let same = h.unnamed on mark fit unnamed in (same.1, same.2))
     (λ off. let same = h.off off in (same.1, same.2))
 
 -- the recovery's own answer, from that of the command
@@ -123,6 +91,7 @@ unusable_of : (r : RecoverAnswer) (kind : TrapKind)
 unusable_of recovered.Clean kind e = absurd cc
 unusable_of (recovered.Redone v l) kind e = absurd cc
 unusable_of (recovered.Trap other) kind e = absurd cc
+unusable_of (recovered.Aborted other) kind e = absurd cc
 unusable_of (recovered.Unusable other) kind e =
     let same : kind ≡ other = cc in ap recovered.Unusable (sym same)
 unusable_of recovered.Numbers kind e = absurd cc
@@ -135,69 +104,32 @@ numbers_of : (r : RecoverAnswer) → answer.RefusedNumbers ≡ answer_of_recover
 numbers_of recovered.Clean e = absurd cc
 numbers_of (recovered.Redone v l) e = absurd cc
 numbers_of (recovered.Trap other) e = absurd cc
+numbers_of (recovered.Aborted other) e = absurd cc
 numbers_of (recovered.Unusable other) e = absurd cc
 numbers_of recovered.Numbers e = refl
 numbers_of (recovered.Off at) e = absurd cc
 numbers_of recovered.Failed e = absurd cc
 numbers_of recovered.NoMemory e = absurd cc
 
-marked_unusable_of : (r : AbortAnswer) (kind : TrapKind)
-    → answer.RefusedUnusable kind ≡ answer_of_marked_recovery r → r ≡ marked.Unusable kind
-marked_unusable_of (marked.Done v l) kind e = absurd cc
-marked_unusable_of (marked.Aborted other) kind e = absurd cc
-marked_unusable_of (marked.Unusable other) kind e =
-    let same : kind ≡ other = cc in ap marked.Unusable (sym same)
-marked_unusable_of marked.Numbers kind e = absurd cc
-marked_unusable_of (marked.Off at) kind e = absurd cc
-marked_unusable_of marked.Failed kind e = absurd cc
-marked_unusable_of marked.NoMemory kind e = absurd cc
-
-marked_numbers_of : (r : AbortAnswer) → answer.RefusedNumbers ≡ answer_of_marked_recovery r
-    → r ≡ marked.Numbers
-marked_numbers_of (marked.Done v l) e = absurd cc
-marked_numbers_of (marked.Aborted other) e = absurd cc
-marked_numbers_of (marked.Unusable other) e = absurd cc
-marked_numbers_of marked.Numbers e = refl
-marked_numbers_of (marked.Off at) e = absurd cc
-marked_numbers_of marked.Failed e = absurd cc
-marked_numbers_of marked.NoMemory e = absurd cc
-
-both_true : (a b : Bool) → a && b ≡ true → a ≡ true
-both_true true b e = refl
-both_true false b e = e
-
 module _ (program : Program) (d b : Device) (n : Mode) (k k1 : ℕ) where
-  unusable_by : (by : Bool) → owes_marked program d ≡ by → (kind : TrapKind)
+  unusable_by : (by : Bool) (kind : TrapKind)
       → RecoversBy by program.image d (answer.RefusedUnusable kind) n b k k1
       → (b ≡ d) × (k1 ≡ k) × (n ≡ mode.Unusable kind)
-  unfolding IsIdle IsMarkedIdle
-  unusable_by false owes kind h =
+  unfolding IsIdle
+  unusable_by by kind h =
       let is = unusable_of h.tx_answer kind h.answer in
-      let kept = idle_recovery h.tx_answer program.image d b k k1
+      let kept = idle_recovery h.tx_answer (policy_of by) program.image d b k k1
       (subst IsIdle (sym is) tt) h.recovered in
       (kept.0, kept.1, h.mode ∙ ap mode_of_recovery is)
-  unusable_by true owes kind h =
-      let is = marked_unusable_of h.tx_answer kind h.answer in
-      let kept = idle_marked h.tx_answer program.image d b k k1
-      (subst IsMarkedIdle (sym is) tt)
-      (both_true (is_sealed (view d.cache)) (rolls_back_of program (tx_in d)) owes) h.redone in
-      (kept.0, kept.1, h.mode ∙ ap mode_of_marked_recovery is)
 
-  numbers_by : (by : Bool) → owes_marked program d ≡ by
-      → RecoversBy by program.image d answer.RefusedNumbers n b k k1
+  numbers_by : (by : Bool) → RecoversBy by program.image d answer.RefusedNumbers n b k k1
       → (b ≡ d) × (k1 ≡ k) × (n ≡ mode.Down)
-  unfolding IsIdle IsMarkedIdle
-  numbers_by false owes h =
+  unfolding IsIdle
+  numbers_by by h =
       let is = numbers_of h.tx_answer h.answer in
-      let kept = idle_recovery h.tx_answer program.image d b k k1
+      let kept = idle_recovery h.tx_answer (policy_of by) program.image d b k k1
       (subst IsIdle (sym is) tt) h.recovered in
       (kept.0, kept.1, h.mode ∙ ap mode_of_recovery is)
-  numbers_by true owes h =
-      let is = marked_numbers_of h.tx_answer h.answer in
-      let kept = idle_marked h.tx_answer program.image d b k k1
-      (subst IsMarkedIdle (sym is) tt)
-      (both_true (is_sealed (view d.cache)) (rolls_back_of program (tx_in d)) owes) h.redone in
-      (kept.0, kept.1, h.mode ∙ ap mode_of_marked_recovery is)
 
 -- such a `power` has no bad pick
 module _ (program : Program) (choice : Choice) (m n : Mode) (d b : Device) (k k1 : ℕ) where
@@ -209,8 +141,8 @@ module _ (program : Program) (choice : Choice) (m n : Mode) (d b : Device) (k k1
   unusable_power kind None (Some line) falls is h =
       let clash = (h.1 line falls is).0 in absurd cc
   unusable_power kind None None falls is h =
-      unusable_by program (powered choice d) b n k k1 (owes_marked program (powered choice d)) refl
-      kind (h.2 falls is)
+      unusable_by program (powered choice d) b n k k1 (owes_marked program (powered choice d)) kind
+      (h.2 falls is)
 
   numbers_power : (falls fits : Option ℕ) → fallen 0 choice.picks ≡ falls
       → bad (memory_of d) choice.picks ≡ fits
@@ -219,7 +151,7 @@ module _ (program : Program) (choice : Choice) (m n : Mode) (d b : Device) (k k1
   numbers_power (Some line) fits falls is h = let clash = (h.0 line falls).0 in absurd cc
   numbers_power None (Some line) falls is h = let clash = (h.1 line falls is).0 in absurd cc
   numbers_power None None falls is h =
-      numbers_by program (powered choice d) b n k k1 (owes_marked program (powered choice d)) refl
+      numbers_by program (powered choice d) b n k k1 (owes_marked program (powered choice d))
       (h.2 falls is)
 
 pub power_unusable : PowerUnusableLaw
@@ -267,21 +199,12 @@ off_of : (r : RecoverAnswer) (at : Phase) → answer.Stopped at ≡ answer_of_re
 off_of recovered.Clean at e = absurd cc
 off_of (recovered.Redone v l) at e = absurd cc
 off_of (recovered.Trap kind) at e = absurd cc
+off_of (recovered.Aborted kind) at e = absurd cc
 off_of (recovered.Unusable kind) at e = absurd cc
 off_of recovered.Numbers at e = absurd cc
 off_of (recovered.Off p) at e = let same : at ≡ p = cc in ap recovered.Off (sym same)
 off_of recovered.Failed at e = absurd cc
 off_of recovered.NoMemory at e = absurd cc
-
-marked_off_of : (r : AbortAnswer) (at : Phase) → answer.Stopped at ≡ answer_of_marked_recovery r
-    → r ≡ marked.Off at
-marked_off_of (marked.Done v l) at e = absurd cc
-marked_off_of (marked.Aborted kind) at e = absurd cc
-marked_off_of (marked.Unusable kind) at e = absurd cc
-marked_off_of marked.Numbers at e = absurd cc
-marked_off_of (marked.Off p) at e = let same : at ≡ p = cc in ap marked.Off (sym same)
-marked_off_of marked.Failed at e = absurd cc
-marked_off_of marked.NoMemory at e = absurd cc
 
 module _ (d b : Device) (on : d.on ≡ true) (endless : d.left ≡ None) where
   off_not : d.on ≡ false → ⊥
@@ -292,51 +215,30 @@ module _ (d b : Device) (on : d.on ≡ true) (endless : d.left ≡ None) where
   no_cleaned_off phase.Sealing es h = h
   no_cleaned_off phase.Sealed es h = h
 
-  no_redid_off : (at : Phase) (image : Image) (tx : ℕ) (args : List ℤ) (n k k1 : ℕ)
-      → Redid (recovered.Off at) image tx args n d b k k1 → ⊥
-  no_redid_off phase.Unsealed image tx args n k k1 h = h
-  no_redid_off phase.Sealing image tx args n k k1 h = h
-  no_redid_off phase.Sealed image tx args n k k1 h = none_left d b _ on endless h
+  no_redid_off : (at : Phase) (p : Policy) (image : Image) (tx : ℕ) (args : List ℤ) (n k k1 : ℕ)
+      → Redid (recovered.Off at) p image tx args n d b k k1 → ⊥
+  no_redid_off phase.Unsealed p image tx args n k k1 h = h
+  no_redid_off phase.Sealing p image tx args n k k1 h = h
+  no_redid_off phase.Sealed p image tx args n k k1 h = none_left d b _ on endless h
 
-  no_marked_off : (at : Phase) (image : Image) (tx : ℕ) (args : List ℤ) (n k k1 : ℕ)
-      → AbortRedid (marked.Off at) image tx args n d b k k1 → ⊥
-  no_marked_off phase.Unsealed image tx args n k k1 h = h
-  no_marked_off phase.Sealing image tx args n k k1 h = h
-  no_marked_off phase.Sealed image tx args n k k1 h = none_left d b _ on endless h
-
-  not_recovered : (at : Phase) (image : Image) (k k1 : ℕ)
-      → IsRecovered (recovered.Off at) image d b k k1 → ⊥
-  not_recovered at image k k1 h = by_found ⊥ image d
+  not_recovered : (at : Phase) (p : Policy) (image : Image) (k k1 : ℕ)
+      → IsRecovered (recovered.Off at) p image d b k k1 → ⊥
+  not_recovered at p image k k1 h = by_found ⊥ image d
       (λ is mark. let clash = (h.unusable is mark).0 in absurd cc)
       (λ is mark out. let clash = (h.numbers is mark out).0 in absurd cc)
       (λ is mark fit unsealed. no_cleaned_off at _ (h.clean is mark fit unsealed))
       (λ is mark fit sealed named.
-      no_redid_off at image _ _ _ k k1 (h.redid is mark fit sealed named))
+      no_redid_off at p image _ _ _ k k1 (h.redid is mark fit sealed named))
       (λ is mark fit sealed unnamed.
       let clash = (h.unnamed is mark fit sealed unnamed).0 in absurd cc)
       off_not
 
-  not_redone : (at : Phase) (image : Image) (k k1 : ℕ) → is_sealed (view d.cache) ≡ true
-      → IsAbortRedone (marked.Off at) image d b k k1 → ⊥
-  not_redone at image k k1 seal h = by_found ⊥ image d
-      (λ is mark. let clash = (h.unusable is mark).0 in absurd cc)
-      (λ is mark out. let clash = (h.numbers is mark out).0 in absurd cc)
-      (λ is mark fit unsealed. true_not_false (sym seal ∙ unsealed))
-      (λ is mark fit sealed named. no_marked_off at image _ _ _ k k1 (h.redid is mark fit named))
-      (λ is mark fit sealed unnamed. let clash = (h.unnamed is mark fit unnamed).0 in absurd cc)
-      off_not
-
-  not_stopped : (program : Program) (by : Bool) → owes_marked program d ≡ by → (at : Phase)
-      (n : Mode) (k k1 : ℕ) → RecoversBy by program.image d (answer.Stopped at) n b k k1 → ⊥
-  not_stopped program false owes at n k k1 h =
-      not_recovered at program.image k k1
-      (subst (λ (r : RecoverAnswer). IsRecovered r program.image d b k k1)
+  not_stopped : (program : Program) (by : Bool) (at : Phase) (n : Mode) (k k1 : ℕ)
+      → RecoversBy by program.image d (answer.Stopped at) n b k k1 → ⊥
+  not_stopped program by at n k k1 h =
+      not_recovered at (policy_of by) program.image k k1
+      (subst (λ (r : RecoverAnswer). IsRecovered r (policy_of by) program.image d b k k1)
       (off_of h.tx_answer at h.answer) h.recovered)
-  not_stopped program true owes at n k k1 h =
-      not_redone at program.image k k1
-      (both_true (is_sealed (view d.cache)) (rolls_back_of program (tx_in d)) owes)
-      (subst (λ (r : AbortAnswer). IsAbortRedone r program.image d b k k1)
-      (marked_off_of h.tx_answer at h.answer) h.redone)
 
 pub uncut_opening : UncutOpeningLaw
 uncut_opening program words d k at y step =
@@ -344,5 +246,5 @@ uncut_opening program words d k at y step =
     let e : Device = step.did.opened in
     let done : AllDone (blanked lines d) (opening_events lines words) e =
     all_done (blanked lines d) e (opening_events lines words) step.did.written in
-    not_stopped e y.device done.on (done.endless refl) program (owes_marked program e) refl at
-    y.mode k y.steps step.did.recovers
+    not_stopped e y.device done.on (done.endless refl) program (owes_marked program e) at y.mode k
+    y.steps step.did.recovers

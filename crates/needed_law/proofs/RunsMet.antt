@@ -5,7 +5,9 @@ use Rattle.std.specs.Int.{int_wrap}
 use Rattle.cache_model.specs.Cache.{view}
 use Rattle.pool_layout.specs.Log.{count}
 use Rattle.pm_machine.specs.declared.effect.End.TheVariants.{Halted}
-use Rattle.pm_machine.specs.Machine.{Finished, mrun}
+use Rattle.pm_machine.specs.declared.records.Policy.TheVariants.{EndPool}
+use Rattle.pm_machine.specs.Machine.{Finished}
+use Rattle.pm_machine.specs.Logging.{tx_run}
 use Rattle.pm_machine.specs.Runs.{heap_in}
 use Rattle.crash_law.specs.Law.{collapsed}
 use Rattle.crash_law.proofs.Again.{collapsed_one}
@@ -19,7 +21,7 @@ use Rattle.needed_law.proofs.Mets.{good_after, good_retired, owed_once_is, once_
 use Rattle.needed_law.proofs.Mets.{once_restored}
 use Rattle.needed_law.proofs.Mets.{tidy_count}
 
-sound_inc : IsSoundRun (Halted (pos 8)) inc_effects
+sound_inc : IsSoundRun EndPool (Halted (pos 8)) inc_effects
 sound_inc = record {
   covered = λ w input over. inl (covered_by w input);
   paired = (refl, tt);
@@ -30,12 +32,12 @@ sound_inc = record {
     covered_by w (inl e) = e
     covered_by w (inr never) = absurd never.1
 
-run_inc : mrun inc_image inc_image.parts.most (heap_in small_sizes (collapsed after_inc)) 1
-    (pos 5 ∷ []) ≡ Finished (Halted (pos 8)) inc_effects
+run_inc : tx_run EndPool inc_image inc_image.parts.most (heap_in small_sizes (collapsed after_inc))
+    1 (pos 5 ∷ []) ≡ Finished (Halted (pos 8)) inc_effects
 unfolding view int_wrap
 run_inc = refl
 
-runs_inc : RunsSound inc_image 1 (pos 5 ∷ []) (heap_in small_sizes (collapsed after_inc))
+runs_inc : RunsSound EndPool inc_image 1 (pos 5 ∷ []) (heap_in small_sizes (collapsed after_inc))
     (Halted (pos 8)) inc_effects
 runs_inc = record { few = omega arith; ran = run_inc; sound = sound_inc }
 
@@ -56,7 +58,7 @@ call_met = record {
 }
 
 redo_met : MeetsCutRedo inc_image owed_once 1 (pos 5 ∷ []) 1
-    (heap_in small_sizes (collapsed after_inc)) (collapsed owed_once) owed_once 1
+    (heap_in small_sizes (collapsed after_inc)) (pos 3) (collapsed owed_once) owed_once 1
     (Halted (pos 8)) inc_effects
 unfolding view
 redo_met = record {
@@ -83,14 +85,15 @@ redo_met = record {
   runs = runs_inc;
 }
 
-again_met : IsRecoveredTo inc_image owed_once 1 (pos 5 ∷ []) 1
-    (heap_in small_sizes (collapsed after_inc)) (Halted (pos 8)) inc_effects owed_once owed_once
+again_met : IsRecoveredTo EndPool inc_image owed_once 1 (pos 5 ∷ []) 1
+    (heap_in small_sizes (collapsed after_inc)) (pos 3) (Halted (pos 8)) inc_effects owed_once
+    owed_once
 again_met = record {
   n = 1;
   owes = redo_met.owes;
   left = (
     [],
-    due_redo inc_image 1 (pos 5 ∷ []) 1 (collapsed owed_once),
+    due_redo EndPool inc_image 1 (pos 5 ∷ []) 1 (collapsed owed_once),
     refl,
     λ l. (owed_once, inl refl, λ p on. refl),
   );

@@ -9,6 +9,7 @@ use Rattle.pm_machine.specs.declared.effect.Effect.TheVariants.{Loads, Stores, L
 use Rattle.pm_machine.specs.declared.effect.Effect.TheVariants.{Fences, Quiet}
 use Rattle.pm_machine.specs.declared.effect.End.{End}
 use Rattle.pm_machine.specs.declared.effect.End.TheVariants.{Halted}
+use Rattle.pm_machine.specs.declared.records.Policy.TheVariants.{EndPool}
 use Rattle.pm_machine.specs.declared.image.Image.{Image}
 use Rattle.pm_machine.specs.declared.op.Op.{Op}
 use Rattle.pm_machine.specs.declared.op.Op.TheVariants.{Const, Load, Bin, Log, Store, Flush, Fence}
@@ -45,21 +46,23 @@ inc_image = record {
 
 -- from a heap whose counter is 3
 abbrev pub inc_effects : List Effect
-inc_effects = Quiet ∷ Loads 0 ∷ Quiet ∷ Logs 0 ∷ Stores 0 (pos 8) ∷ Flushes 0 ∷ Quiet ∷ Fences ∷ []
+inc_effects = Quiet ∷ Loads 0 ∷ Quiet ∷ Logs 0 ∷ Quiet ∷ Stores 0 (pos 8) ∷ Flushes 0 ∷ Quiet
+    ∷ Fences ∷ []
 
 -- what the laws of a cut call ask
 pub record MeetsCutCall (image : Image) (super : Words) (tx : ℕ) (args : List ℤ) (d : ℕ)
     (c : Cache) (one : Words) (end : End) (es : List Effect) : Type 0 where
   pub begins : BeginsOn image super tx d c one
-  pub runs : RunsSound image tx args (heap_in image.parts.sizes c) end es
+  pub runs : RunsSound EndPool image tx args (heap_in image.parts.sizes c) end es
   pub rest : IsAtRest c
 
--- and those of a cut recovery, from the heap h before the call
+-- and those of a cut recovery, from the heap h and the last value before the call
 pub record MeetsCutRedo (image : Image) (super : Words) (tx : ℕ) (args : List ℤ) (d : ℕ)
-    (h : Words) (c : Cache) (one : Words) (n : ℕ) (end : End) (es : List Effect) : Type 0 where
+    (h : Words) (last : ℤ) (c : Cache) (one : Words) (n : ℕ) (end : End) (es : List Effect) :
+    Type 0 where
   pub only : HasOne c one
-  pub owes : OwesInImage image super tx args d h end es n one
-  pub runs : RunsSound image tx args h end es
+  pub owes : OwesInImage EndPool image super tx args d h last end es n one
+  pub runs : RunsSound EndPool image tx args h end es
 
 -- and those of a recovery that owes nothing
 pub record MeetsCutClean (image : Image) (super : Words) (d : ℕ) (h : Words) (c : Cache)
@@ -68,13 +71,14 @@ pub record MeetsCutClean (image : Image) (super : Words) (d : ℕ) (h : Words) (
   pub rests : RestsInImage image super d h n one
 
 pub record RunsMetLaw : Type 0 where
-  pub sound : IsSoundRun (Halted (pos 8)) inc_effects
+  pub sound : IsSoundRun EndPool (Halted (pos 8)) inc_effects
   pub call : MeetsCutCall inc_image after_inc 1 (pos 5 ∷ []) 1 (collapsed after_inc) after_inc
       (Halted (pos 8)) inc_effects
   pub redo : MeetsCutRedo inc_image owed_once 1 (pos 5 ∷ []) 1
-      (heap_in small_sizes (collapsed after_inc)) (collapsed owed_once) owed_once 1
+      (heap_in small_sizes (collapsed after_inc)) (pos 3) (collapsed owed_once) owed_once 1
       (Halted (pos 8)) inc_effects
-  pub again : IsRecoveredTo inc_image owed_once 1 (pos 5 ∷ []) 1
-      (heap_in small_sizes (collapsed after_inc)) (Halted (pos 8)) inc_effects owed_once owed_once
+  pub again : IsRecoveredTo EndPool inc_image owed_once 1 (pos 5 ∷ []) 1
+      (heap_in small_sizes (collapsed after_inc)) (pos 3) (Halted (pos 8)) inc_effects owed_once
+      owed_once
   pub clean : MeetsCutClean inc_image retired_once 2
       (heap_in small_sizes (collapsed retired_once)) (collapsed retired_once) retired_once 1

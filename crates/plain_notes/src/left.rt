@@ -280,7 +280,7 @@ fn by_bracket(near: &Spelled<'_>) -> Option<&'static str> {
     }
 }
 
-/// The operators that stand behind a value.
+/// The operators that stand after a value.
 const OPERATORS: [&str; 19] = [
     "*", "/", "%", "+", "-", "<<", ">>", "<", "<=", ">", ">=", "==", "!=", "&", "^", "|", "&&",
     "||", "?",

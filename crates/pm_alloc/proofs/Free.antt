@@ -1,5 +1,5 @@
 -- The checks of a pointer, and the code of `pm_free`.
-use Rattle.std.proofs.Common.{◌≡◌, ℕ, zero, suc, ◌+◌, ◌-◌, ◌*◌, ◌^◌, ◌<◌, ◌≤◌, Bool, true, false}
+use Rattle.std.proofs.Common.{◌≡◌, ℕ, zero, suc, ◌+◌, ◌-◌, ◌*◌, ◌^◌, ◌≤◌, Bool, true, false}
 use Rattle.std.proofs.Common.{List, [], ◌∷◌, ◌++◌, ℤ, pos, negsuc, refl, arith, ltb, subst}
 use Rattle.std.specs.Prelude.{◌+ℤ◌, ◌==◌, if◌then◌else◌}
 use Rattle.std.specs.Int.{w64, int_wrap}
@@ -145,8 +145,7 @@ module _ (s : Sizes) (heap : Words) (kind q : ℕ) where
   look_slot (pos (suc n)) e = by_range n (ltb (suc n) (s.slots + 1)) refl e
   look_slot (negsuc n) e = absurd (cc)
 
-module _ (s : Sizes) (p kind : ℕ) (own x : ℕ → ℤ) (w : World) (pool : IsPool s)
-    (room : w.records < s.records) where
+module _ (s : Sizes) (p kind : ℕ) (own x : ℕ → ℤ) (w : World) (pool : IsPool s) where
   freed_if : (n : ℕ) (r : Looked) → n ≤ 11 → ((q : ℕ) → r ≡ Is q → IsSlot s q)
       → Checked s (free_code s p kind) own x w n r → (m : ℕ) × (m ≤ 14) × Freed s p kind own x w m r
   freed_if n Null few among e = (n, omega arith, e)
@@ -161,7 +160,7 @@ module _ (s : Sizes) (p kind : ℕ) (own x : ℕ → ℤ) (w : World) (pool : Is
       lt-ltb (slot_word s q) (heap_words s) (omega (arith, slot.low, slot.high)) in
       let write = with_log s (free_code s p kind) own (pos (q * 16) ∷ pos 0 ∷ f.1 ∷ x 3 ∷ x 4 ∷ x 5
       ∷ x 6 ∷ x 7 ∷ []) 13 (slot_word s q) (header_seen s w q) (Temp 0) (Temp 1) (offset s 0) refl
-      refl at within room in (
+      refl at within in (
         n + 1 + 2,
         omega arith,
         (
@@ -172,8 +171,8 @@ module _ (s : Sizes) (p kind : ℕ) (own x : ℕ → ℤ) (w : World) (pool : Is
       )
 
 pub free_done : FreeLaw
-free_done s p kind own x w pool word room =
+free_done s p kind own x w pool word =
     let f = pointer_checked s p kind (Const (Temp 1) (pos 0) ∷ store_code true (Temp 0) (offset s 0)
     (Temp 1)) own x w pool word in
-    freed_if s p kind own x w pool room f.0 (look s w.heap kind (own p)) f.1
+    freed_if s p kind own x w pool f.0 (look s w.heap kind (own p)) f.1
     (λ q e. look_slot s w.heap kind q (own p) e) f.2

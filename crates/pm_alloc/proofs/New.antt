@@ -1,5 +1,5 @@
 -- The code of a new object, after the search.
-use Rattle.std.proofs.Common.{◌≡◌, ℕ, zero, suc, ◌+◌, ◌*◌, ◌<◌, ◌≤◌, Bool, true, false, List, []}
+use Rattle.std.proofs.Common.{◌≡◌, ℕ, zero, suc, ◌+◌, ◌*◌, ◌≤◌, Bool, true, false, List, []}
 use Rattle.std.proofs.Common.{◌∷◌, ◌++◌, length, Some, ℤ, pos, refl, sym, ap, ◌∙◌, subst, arith}
 use Rattle.std.proofs.Common.{ltb, append_assoc, length-append, get_or}
 use Rattle.std.specs.Prelude.{◌+ℤ◌, slice_get}
@@ -60,28 +60,26 @@ module _ (s : Sizes) (frag : List Local) (own : Words) (temp : List ℤ) where
 
   note : (p q : ℕ) (w : World) (x : Reg) (o : ℤ) → slice_get frag p ≡ Some (Log x o)
       → int_wrap w64 (local_read own temp x +ℤ o) ≡ pos q → ltb q (heap_words s) ≡ true
-      → w.records < s.records → go 1 (loc p w) ≡ Goes (loc (p + 1) (logged w q))
-  note p q w x o here at within room =
-      let some : ltb w.records s.records ≡ true = lt-ltb w.records s.records room in
-      rw (here, at, within, some) refl
+      → go 1 (loc p w) ≡ Goes (loc (p + 1) (logged w q))
+  note p q w x o here at within = rw (here, at, within) refl
 
   pub with_log : (p q : ℕ) (w : World) (x a : Reg) (o : ℤ) → slice_get frag p ≡ Some (Log x o)
       → slice_get frag (p + 1) ≡ Some (Store x o a) → int_wrap w64 (local_read own temp x +ℤ o)
-      ≡ pos q → ltb q (heap_words s) ≡ true → w.records < s.records
+      ≡ pos q → ltb q (heap_words s) ≡ true
       → go 2 (loc p w) ≡ Goes (loc (p + 1 + 1) (wrote true w q (local_read own temp a)))
-  with_log p q w x a o here next at within room =
-      run_on (local_step s frag) 1 1 _ _ _ (note p q w x o here at within room)
+  with_log p q w x a o here next at within =
+      run_on (local_step s frag) 1 1 _ _ _ (note p q w x o here at within)
       (plain (p + 1) q (logged w q) x a o next at within)
 
   -- the fill: temporary 1 is 16 times the slot, temporary 6 is 0
   fill_run : (b : Bool) (c j p q slot : ℕ) (w : World) (rest : List Local) → IsPool s → 1 ≤ slot
       → slot ≤ s.slots → Here frag p (fill_code s b j c ++ rest) → q ≡ slot_word s slot + j
-      → j + c ≤ 16 → w.records + c ≤ s.records → get_or temp 1 (pos 0) ≡ pos (16 * slot)
+      → j + c ≤ 16 → get_or temp 1 (pos 0) ≡ pos (16 * slot)
       → get_or temp 6 (pos 0) ≡ pos 0 → (n : ℕ) × (n ≤ 2 * c)
       × (go n (loc p w) ≡ Goes (loc (p + length (fill_code s b j c)) (zeroed b w q c)))
-  fill_run b zero j p q slot w rest pool low high here is short room e1 e6 =
+  fill_run b zero j p q slot w rest pool low high here is short e1 e6 =
       (0, omega arith, ap (λ (n : ℕ). Goes (loc n w)) (omega arith))
-  fill_run false (suc c) j p q slot w rest pool low high here is short room e1 e6 =
+  fill_run false (suc c) j p q slot w rest pool low high here is short e1 e6 =
       let at : int_wrap w64 (get_or temp 1 (pos 0) +ℤ offset s j) ≡ pos q =
       ap (λ (z : ℤ). int_wrap w64 (z +ℤ offset s j)) e1
       ∙ address_is s slot j low (omega (arith, pool.few)) pool.lines (omega arith)
@@ -91,7 +89,7 @@ module _ (s : Sizes) (frag : List Local) (own : Words) (temp : List ℤ) where
       plain p q w (Temp 1) (Temp 6) (offset s j) here.0 at within
       ∙ ap (λ (z : ℤ). Goes (loc (p + 1) (local_stored w q z))) e6 in
       let next = fill_run false c (j + 1) (p + 1) (q + 1) slot (local_stored w q (pos 0)) rest pool
-      low high here.1 (omega arith) (omega arith) (omega arith) e1 e6 in
+      low high here.1 (omega arith) (omega arith) e1 e6 in
       let last : p + 1 + length (fill_code s false (j + 1) c) ≡ p
       + length (fill_code s false j (suc c)) = omega arith in (
         1 + next.0,
@@ -99,17 +97,17 @@ module _ (s : Sizes) (frag : List Local) (own : Words) (temp : List ℤ) where
         run_on (local_step s frag) 1 next.0 _ _ _ first next.2
             ∙ ap (λ (n : ℕ). Goes (loc n (zeroed false w q (suc c)))) last,
       )
-  fill_run true (suc c) j p q slot w rest pool low high here is short room e1 e6 =
+  fill_run true (suc c) j p q slot w rest pool low high here is short e1 e6 =
       let at : int_wrap w64 (get_or temp 1 (pos 0) +ℤ offset s j) ≡ pos q =
       ap (λ (z : ℤ). int_wrap w64 (z +ℤ offset s j)) e1
       ∙ address_is s slot j low (omega (arith, pool.few)) pool.lines (omega arith)
       ∙ ap pos (sym is) in
       let within : ltb q (heap_words s) ≡ true = lt-ltb q (heap_words s) (omega arith) in
       let first : go 2 (loc p w) ≡ Goes (loc (p + 1 + 1) (wrote true w q (pos 0))) =
-      with_log p q w (Temp 1) (Temp 6) (offset s j) here.0 here.1.0 at within (omega arith)
+      with_log p q w (Temp 1) (Temp 6) (offset s j) here.0 here.1.0 at within
       ∙ ap (λ (z : ℤ). Goes (loc (p + 1 + 1) (wrote true w q z))) e6 in
       let next = fill_run true c (j + 1) (p + 1 + 1) (q + 1) slot (wrote true w q (pos 0)) rest pool
-      low high here.1.1 (omega arith) (omega arith) (omega arith) e1 e6 in
+      low high here.1.1 (omega arith) (omega arith) e1 e6 in
       let last : p + 1 + 1 + length (fill_code s true (j + 1) c) ≡ p
       + length (fill_code s true j (suc c)) = omega arith in (
         2 + next.0,
@@ -119,7 +117,7 @@ module _ (s : Sizes) (frag : List Local) (own : Words) (temp : List ℤ) where
       )
 
 module _ (s : Sizes) (to kind c : ℕ) (b : Bool) (own : Words) (x : ℕ → ℤ) (w : World)
-    (pool : IsPool s) (few : c ≤ 15) (room : w.records + 1 + c ≤ s.records) where
+    (pool : IsPool s) (few : c ≤ 15) where
   abbrev go_new : ℕ → Loc → Next World Loc
   go_new n l = local_run (local_step s (new_code s to kind c b)) n l
 
@@ -201,7 +199,7 @@ module _ (s : Sizes) (to kind c : ℕ) (b : Bool) (own : Words) (x : ℕ → ℤ
     header : go_new 2 (at_loc 5 own temp1 (searched s w)) ≡ Goes (at_loc 7 own temp1 w1)
     header =
         with_log s (new_code s to kind c b) own temp1 5 (slot_word s q) (searched s w) (Temp 1)
-        (Temp 5) (offset s 0) refl refl at_head within (omega arith)
+        (Temp 5) (offset s 0) refl refl at_head within
 
     to_fill : go_new (4 + 2 + 1) (found q) ≡ Goes (at_loc 8 own temp2 w1)
     to_fill = on (4 + 2) 1 (found q) _ _ (on 4 2 (found q) _ _ to_header header) refl
@@ -213,7 +211,7 @@ module _ (s : Sizes) (to kind c : ℕ) (b : Bool) (own : Words) (x : ℕ → ℤ
     filled =
         fill_run s (new_code s to kind c b) own temp2 b c 1 8 (slot_word s q + 1) q w1
         (Mov (Own to) (Temp 0) ∷ []) pool (omega arith) high rest_here refl (omega arith)
-        (omega arith) refl refl
+        refl refl
 
     slot_made : Done (suc r)
     slot_made = (
@@ -234,8 +232,8 @@ module _ (s : Sizes) (to kind c : ℕ) (b : Bool) (own : Words) (x : ℕ → ℤ
   all_done (suc r) is = slot_made r (least_within s w.heap r is)
 
 pub new_made : NewCodeLaw
-new_made s to kind c b own x w pool few room =
-    let d = all_done s to kind c b own x w pool few room (least s w.heap) refl in (
+new_made s to kind c b own x w pool few =
+    let d = all_done s to kind c b own x w pool few (least s w.heap) refl in (
       1 + d.0,
       omega (arith, d.1),
       (

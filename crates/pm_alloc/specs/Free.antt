@@ -1,7 +1,7 @@
 -- The effect of the checks of a pointer, and of the code of `pm_free` after them: null and stale
 -- trap as the source says, by the pointer's number and the header of its slot; else the header is
 -- loaded, logged and set to 0.
-use Rattle.std.specs.Prelude.{ℕ, zero, suc, ◌+◌, ◌*◌, ◌≤◌, ◌<◌, ◌≡◌, ◌==◌, if◌then◌else◌, nat_lt}
+use Rattle.std.specs.Prelude.{ℕ, zero, suc, ◌+◌, ◌*◌, ◌≤◌, ◌≡◌, ◌==◌, if◌then◌else◌, nat_lt}
 use Rattle.std.specs.Prelude.{true, List, [], ◌∷◌, ◌++◌, length, ℤ, pos, negsuc}
 use Rattle.nvm_base.specs.Operations.{unsigned}
 use Rattle.nvm_base.specs.Wrap.{IsWord}
@@ -79,8 +79,7 @@ Freed s p kind own x w n (Is q) =
       world = wrote true (header_seen s w q) (slot_word s q) (pos 0);
     }))
 
--- if the log has room, `pm_free` takes at most 14 steps
+-- `pm_free` takes at most 14 steps
 abbrev pub FreeLaw : Type 0
 FreeLaw = (s : Sizes) (p kind : ℕ) (own x : ℕ → ℤ) (w : World) → IsPool s → IsWord (own p)
-    → w.records < s.records
     → (n : ℕ) × (n ≤ 14) × Freed s p kind own x w n (look s w.heap kind (own p))

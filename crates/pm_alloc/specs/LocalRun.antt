@@ -1,7 +1,7 @@
 -- Running a piece of code alone on a heap: places are counted from its start, the function's
--- registers are words by their numbers, and its temporary registers a list. The effects on the heap
--- and on the log are kept, the newest first.
-use Rattle.std.specs.Prelude.{ℕ, zero, suc, ◌+◌, if◌then◌else◌, nat_lt, List, ◌∷◌, Option, Some}
+-- registers are words by their numbers, and its temporary registers a list. The effects are kept,
+-- the newest first.
+use Rattle.std.specs.Prelude.{ℕ, zero, suc, ◌+◌, List, ◌∷◌, Option, Some}
 use Rattle.std.specs.Prelude.{None, ℤ, pos, negsuc, ◌+ℤ◌, slice_get, get_or, set}
 use Rattle.std.specs.Int.{w64, int_wrap}
 use Rattle.nvm_base.specs.Applied.{applied}
@@ -24,7 +24,6 @@ pub record World : Type 0 where
   pub heap : Words
   pub seen : List Effect
   pub ticks : ℕ
-  pub records : ℕ
 
 pub record Loc : Type 0 where
   pub at : ℕ
@@ -52,28 +51,23 @@ abbrev pub local_next : Loc → World → Loc
 local_next l w = record { at = l.at + 1; own = l.own; temp = l.temp; world = w }
 
 abbrev pub see : World → Effect → World
-see w e = record { heap = w.heap; seen = e ∷ w.seen; ticks = w.ticks; records = w.records }
+see w e = record { heap = w.heap; seen = e ∷ w.seen; ticks = w.ticks }
 
 -- the headers that a search for a free slot loads
 abbrev pub searched : Sizes → World → World
 searched s w = see w (Scans (slot_word s 1) (looks s w.heap))
 
--- a word stored; the word's record appended to the log
+-- a word stored
 abbrev pub local_stored : World → ℕ → ℤ → World
 local_stored w q v = record {
   heap = put w.heap q v;
   seen = Stores q v ∷ w.seen;
   ticks = w.ticks;
-  records = w.records;
 }
 
+-- LOG asks for a record of a word
 abbrev pub logged : World → ℕ → World
-logged w q = record {
-  heap = w.heap;
-  seen = Logs q ∷ w.seen;
-  ticks = w.ticks;
-  records = w.records + 1;
-}
+logged w q = see w (Logs q)
 
 abbrev pub local_load : Loc → Reg → Option ℕ → Next World Loc
 local_load l r None = Goes (local_write (l.at + 1) l.own l.temp l.world r (pos 0))
@@ -84,16 +78,14 @@ abbrev pub local_store : Loc → ℤ → Option ℕ → Next World Loc
 local_store l x None = Goes (local_next l l.world)
 local_store l x (Some w) = Goes (local_next l (local_stored l.world w x))
 
--- LOG in a log of C records: trap 7 if it is full
-abbrev pub local_log : ℕ → Loc → Option ℕ → Next World Loc
-local_log C l None = Goes (local_next l l.world)
-local_log C l (Some w) = if nat_lt l.world.records C then Goes (local_next l (logged l.world w))
-    else Traps 7 l.world
+abbrev pub local_log : Loc → Option ℕ → Next World Loc
+local_log l None = Goes (local_next l l.world)
+local_log l (Some w) = Goes (local_next l (logged l.world w))
 
 abbrev pub local_tick : Loc → ℕ → Next World Loc
 local_tick l zero = Traps 5 l.world
 local_tick l (suc n) = Goes (local_next l
-    (record { heap = l.world.heap; seen = l.world.seen; ticks = n; records = l.world.records }))
+    (record { heap = l.world.heap; seen = l.world.seen; ticks = n }))
 
 -- the heap word at a + o, where the sum wraps
 abbrev pub local_target : Sizes → ℤ → ℤ → Option ℕ
@@ -116,7 +108,7 @@ local_act s l (Some (Store a o b)) =
 local_act s l (Some (Find r)) =
     Goes (local_write (l.at + 1) l.own l.temp (searched s l.world) r (pos (least s l.world.heap)))
 local_act s l (Some (Log a o)) =
-    local_log s.records l (local_target s (local_read l.own l.temp a) o)
+    local_log l (local_target s (local_read l.own l.temp a) o)
 local_act s l (Some Tick) = local_tick l l.world.ticks
 local_act s l (Some (Trap k)) = Traps k l.world
 

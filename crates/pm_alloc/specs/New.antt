@@ -1,7 +1,7 @@
--- The effect of the code of `pm_new`, from its start with any registers, if the log has room for
--- its records: with the least free slot it logs and stores the header, stores zeros, each logged if
--- the fill is, and gives the slot; if no slot is free it gives 0 and has stored nothing. It takes
--- at most 39 steps, whatever the number of slots.
+-- The effect of the code of `pm_new`, from its start with any registers: with the least free slot
+-- it logs and stores the header, stores zeros, each logged if the fill is, and gives the slot; if
+-- no slot is free it gives 0 and has stored nothing. It takes at most 39 steps, whatever the number
+-- of slots.
 use Rattle.std.specs.Prelude.{ℕ, zero, suc, ◌+◌, ◌≤◌, ◌≡◌, Bool, true, false, List, length, ℤ, pos}
 use Rattle.cache_model.specs.Cache.{Words, put}
 use Rattle.pool_layout.specs.declared.limits.Sizes.{Sizes}
@@ -31,8 +31,7 @@ world_after_new s kind c b w (suc q) =
 abbrev pub NewCodeLaw : Type 0
 NewCodeLaw =
     (s : Sizes) (to kind c : ℕ) (b : Bool) (own : Words) (x : ℕ → ℤ) (w : World) → IsPool s →
-    c ≤ 15 → w.records + 1 + c ≤ s.records
-    → (n : ℕ) × (n ≤ 39)
+    c ≤ 15 → (n : ℕ) × (n ≤ 39)
     × ((temp : List ℤ) × (local_run (local_step s (new_code s to kind c b)) n
     (record { at = 0; own = own; temp = temporaries x; world = w }) ≡ Goes (record {
       at = length (new_code s to kind c b);

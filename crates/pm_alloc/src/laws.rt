@@ -11,7 +11,7 @@ pub fn search_law()
 {}
 
 /// The code of `pm_new` makes an object in the least free slot, or gives 0 if none is free, in at
-/// most 39 steps, if the log has room.
+/// most 39 steps.
 pub fn new_law()
     ensures { NewCodeLaw }
 {}
@@ -22,8 +22,7 @@ pub fn pointer_law()
     ensures { PointerLaw }
 {}
 
-/// The code of `pm_free` traps as the checks do, or sets the header to 0, in at most 14 steps, if
-/// the log has room.
+/// The code of `pm_free` traps as the checks do, or sets the header to 0, in at most 14 steps.
 pub fn free_law()
     ensures { FreeLaw }
 {}

@@ -1,5 +1,5 @@
 -- Two heaps that are alike for a run have the same run.
-use Rattle.std.proofs.Common.{◌≡◌, ◌≢◌, inl, inr, ⊎_elim, ℕ, zero, suc, ◌<◌, List, [], ◌∷◌, Option}
+use Rattle.std.proofs.Common.{◌≡◌, ◌≢◌, inl, inr, ⊎_elim, ℕ, zero, suc, ◌<◌, List, [], ◌∷◌, ◌++◌, Option}
 use Rattle.std.proofs.Common.{Some, None, ℤ, Bool, true, false, if◌then◌else◌, pos, ◌+◌, ◌≤◌, ◌*◌}
 use Rattle.std.proofs.Common.{◌+ℤ◌, w64, arith, refl, sym, ap, ◌∙◌, subst}
 use Rattle.std.specs.Int.{int_wrap}
@@ -16,15 +16,18 @@ use Rattle.pm_machine.specs.declared.effect.Effect.{Effect}
 use Rattle.pm_machine.specs.declared.effect.Effect.TheVariants.{Loads, Scans, Stores, Logs, Flushes}
 use Rattle.pm_machine.specs.declared.effect.Effect.TheVariants.{Fences, Quiet}
 use Rattle.pm_machine.specs.declared.effect.End.{End}
-use Rattle.pm_machine.specs.Effects.{heap_past, records_past, heap_end}
+use Rattle.pool_map.specs.declared.trap.TrapKind.TheVariants.{LogFull}
+use Rattle.pm_machine.specs.declared.effect.End.TheVariants.{Trapped}
+use Rattle.pm_machine.specs.Effects.{heap_past, heap_end}
 use Rattle.pm_machine.specs.Inputs.{AreAlike}
 use Rattle.pm_machine.specs.Find.{free_of, tried, least, looks, IsHeader}
-use Rattle.pm_machine.specs.Machine.{State, StepOutcome, Goes, Ends, Run, Finished, began, follow}
-use Rattle.pm_machine.specs.Machine.{tally, step, run, execute, fetch, load, target, written}
-use Rattle.pm_machine.specs.Machine.{read_register, address_index}
+use Rattle.pm_machine.specs.Machine.{State, StepOutcome, Goes, Ends, Run, Finished, step, execute}
+use Rattle.pm_machine.specs.Machine.{fetch, load, target, written, read_register, address_index}
+use Rattle.pm_machine.specs.Logging.{Logging, Turn, Plays, Stops, asks, unlisted, missing, bare}
+use Rattle.pm_machine.specs.Logging.{with_record, noted, has_room, turn, begun, follows, logged_run}
 use Rattle.pm_machine.specs.Runs.{heap_in, AreLines, due, owed, IsFinished}
-use Rattle.pm_machine.proofs.Fuel.{began_rest}
 use Rattle.pm_machine.proofs.Range.{inside_below, looks_within}
+use Rattle.pm_machine.proofs.Recording.{heap_with, heap_append, begun_rest, bare_heap}
 use Rattle.pm_machine.proofs.Dues.{due_run}
 
 load_same : (h r : Words) (s : State) (q : ℕ) (p : Option ℕ) → ((w : ℕ) → p ≡ Some w → h w ≡ r w)
@@ -59,18 +62,18 @@ find_same h r (suc n) q w same =
     go next false some = let rest = next (λ u is. some u (inr is)) in (rest.0, ap suc rest.1)
 
 -- a step depends on the heap only through its loads
-pub act_same : (image : Image) (h r : Words) (n : ℕ) (s : State) (i : Option Op) →
+pub act_same : (image : Image) (h r : Words) (s : State) (i : Option Op) →
     ((w : ℕ) (t : State) → w < heap_words image.parts.sizes
-    → execute image h n s i ≡ Goes (Loads w) t → h w ≡ r w) →
+    → execute image h s i ≡ Goes (Loads w) t → h w ≡ r w) →
     ((w m : ℕ) (t : State) → w + 16 * m ≤ heap_words image.parts.sizes
-    → execute image h n s i ≡ Goes (Scans w m) t → (u : ℕ) → IsHeader w m u → h u ≡ r u) →
-    execute image r n s i ≡ execute image h n s i
-act_same image h r n s (Some (Load q a o)) same alike =
+    → execute image h s i ≡ Goes (Scans w m) t → (u : ℕ) → IsHeader w m u → h u ≡ r u) →
+    execute image r s i ≡ execute image h s i
+act_same image h r s (Some (Load q a o)) same alike =
     load_same h r s q (target image s a o)
     (λ w is. same w (written s q (h w))
     (inside_below (heap_words image.parts.sizes) w
     (address_index (int_wrap w64 (read_register s a +ℤ o))) is) (ap (load h s q) is))
-act_same image h r n s (Some (Find q)) same alike =
+act_same image h r s (Some (Find q)) same alike =
     let z : Sizes = image.parts.sizes in
     let both = find_same h r image.parts.sizes.slots 1 (slot_word image.parts.sizes 1)
     (alike (slot_word image.parts.sizes 1) (looks image.parts.sizes h)
@@ -79,7 +82,7 @@ act_same image h r n s (Some (Find q)) same alike =
     (written s q (pos (least image.parts.sizes r)))) both.1
     ∙ ap (λ (p : ℕ). Goes (Scans (slot_word image.parts.sizes 1) (looks image.parts.sizes h))
     (written s q (pos p))) both.0
-act_same image h r n s i same alike = refl
+act_same image h r s i same alike = refl
 
 -- headers below the end of the heap
 pub header_below : (w m u H : ℕ) → w + 16 * m ≤ H → IsHeader w m u → u < H
@@ -106,68 +109,129 @@ alike_past H (Flushes l) es h r alike u lt kept = alike u lt kept
 alike_past H Fences es h r alike u lt kept = alike u lt kept
 alike_past H Quiet es h r alike u lt kept = alike u lt kept
 
+-- of a step with its record, the words that it depends on are those of the step
+alike_with : (H : ℕ) (o : Option ℕ) (e : Effect) (es : List Effect) (h r : Words)
+    → AreAlike H (with_record o e ++ es) h r → AreAlike H (bare e ∷ es) h r
+alike_with H None e es h r alike = alike
+alike_with H (Some w) e es h r alike = alike
+
 module _ (image : Image) (end : End) where
   abbrev H : ℕ
   H = heap_words image.parts.sizes
 
-  abbrev Agrees : (k n : ℕ) → State → (h r : Words) → List Effect → Type 0
-  Agrees k n s h r es = (run image k n s r ≡ Finished end es)
+  abbrev C : ℕ
+  C = image.parts.sizes.records
+
+  abbrev Agrees : (k : ℕ) → Logging → State → (h r : Words) → List Effect → Type 0
+  Agrees k g s h r es = (logged_run image k g s r ≡ Finished end es)
       × ((u : ℕ) → u < H → heap_end h es u ≡ heap_end r es u)
 
-  abbrev after : (k n : ℕ) → Words → Effect → State → Run
-  after k n h e t = run image k (records_past n e) t (heap_past h e)
+  abbrev after : (k : ℕ) → Words → List Effect → Logging → State → Run
+  after k heap es g t = logged_run image k g t (heap_end heap es)
 
-  agree_on : (k n : ℕ) (o : StepOutcome) (h r : Words) (es : List Effect) →
-      ((m : ℕ) (t : State) (h r : Words) (rest : List Effect)
-      → run image k m t h ≡ Finished end rest → AreAlike H rest h r → Agrees k m t h r rest) →
-      follow (after k n h) o ≡ Finished end es → AreAlike H es h r →
-      (follow (after k n r) o ≡ Finished end es)
+  agree_on : (k : ℕ) (g : Logging) (o : StepOutcome) (h r : Words) (es : List Effect) →
+      ((g : Logging) (t : State) (h r : Words) (rest : List Effect)
+      → logged_run image k g t h ≡ Finished end rest → AreAlike H rest h r
+      → Agrees k g t h r rest) →
+      follows (after k h) (turn C g o) ≡ Finished end es → AreAlike H es h r →
+      (follows (after k r) (turn C g o) ≡ Finished end es)
       × ((u : ℕ) → u < H → heap_end h es u ≡ heap_end r es u)
-  agree_on k n (Ends q) h r es next ran alike =
-      let none : [] ≡ es = cc in (
+  agree_on k g (Ends q) h r es next ran alike = stopped h r es (cc) ran alike
+    where
+      stopped : (h r : Words) (es : List Effect) → [] ≡ es → Finished q [] ≡ Finished end es
+          → AreAlike H es h r
+          → (Finished q [] ≡ Finished end es)
+          × ((u : ℕ) → u < H → heap_end h es u ≡ heap_end r es u)
+      stopped h r es none ran alike = (
         ran,
         subst (λ (fs : List Effect). AreAlike H fs h r → (u : ℕ) → u < H
             → heap_end h fs u ≡ heap_end r fs u) none (λ same u lt. same u lt (inl (λ over. over)))
             alike,
       )
-  agree_on k n (Goes e t) h r es next ran alike =
-      let inv = began_rest e (after k n h e t) end es ran in
-      let rest : List Effect = inv.0 in
-      let tail : AreAlike H rest (heap_past h e) (heap_past r e) =
-      alike_past H e rest h r (subst (λ (fs : List Effect). AreAlike H fs h r) inv.2 alike) in
-      let afterwards = next (records_past n e) t (heap_past h e) (heap_past r e) rest inv.1 tail
-      in (
-        ap (began e) afterwards.0 ∙ ap (Finished end) (sym inv.2),
-        subst (λ (fs : List Effect). (u : ℕ) → u < H → heap_end h fs u ≡ heap_end r fs u)
-            (sym inv.2) afterwards.1,
-      )
+  agree_on k g (Goes e t) h r es next ran alike = go (has_room C g o) ran
+    where
+      o : Option ℕ
+      o = missing g e
 
-  pub agree : (k n : ℕ) (s : State) (h r : Words) (es : List Effect)
-      → run image k n s h ≡ Finished end es → AreAlike H es h r → Agrees k n s h r es
-  agree zero n s h r es ran alike = absurd (cc)
-  agree (suc k) n s h r es ran alike =
-      let same : step image n s r ≡ step image n s h =
-      ap tally (act_same image h r n s (fetch image s)
+      both : List Effect
+      both = with_record o e
+
+      chosen : Bool → Turn
+      chosen b = if b then Plays both (noted g o) t else Stops (Trapped LogFull)
+
+      go : (b : Bool) → follows (after k h) (chosen b) ≡ Finished end es
+          → (follows (after k r) (chosen b) ≡ Finished end es)
+          × ((u : ℕ) → u < H → heap_end h es u ≡ heap_end r es u)
+      go false is =
+          let none : [] ≡ es = cc in (
+            is,
+            subst (λ (fs : List Effect). AreAlike H fs h r → (u : ℕ) → u < H
+                → heap_end h fs u ≡ heap_end r fs u) none
+                (λ same u lt. same u lt (inl (λ over. over))) alike,
+          )
+      go true is =
+          let inv = begun_rest both (after k h both (noted g o) t) end es is in
+          let rest : List Effect = inv.0 in
+          let h1 : heap_end h both ≡ heap_past h e = heap_with h o e in
+          let r1 : heap_end r both ≡ heap_past r e = heap_with r o e in
+          let alike1 : AreAlike H (bare e ∷ rest) h r = alike_with H o e rest h r
+          (subst (λ (fs : List Effect). AreAlike H fs h r) inv.2 alike) in
+          let tail : AreAlike H rest (heap_end h both) (heap_end r both) =
+          subst (λ (x : Words). AreAlike H rest x (heap_end r both))
+          (bare_heap h e ∙ sym h1)
+          (subst (λ (y : Words). AreAlike H rest (heap_past h (bare e)) y)
+          (bare_heap r e ∙ sym r1) (alike_past H (bare e) rest h r alike1)) in
+          let afterwards = next (noted g o) t (heap_end h both) (heap_end r both) rest inv.1 tail in (
+            ap (begun both) afterwards.0 ∙ ap (Finished end) (sym inv.2),
+            subst (λ (fs : List Effect). (u : ℕ) → u < H → heap_end h fs u ≡ heap_end r fs u)
+                (sym inv.2) (λ u lt. ap (λ (x : Words). x u) (heap_append h both rest)
+                ∙ afterwards.1 u lt ∙ ap (λ (x : Words). x u) (sym (heap_append r both rest))),
+          )
+
+  -- what a step loads is alike
+  loaded : (k : ℕ) (g : Logging) (h r : Words) (e : Effect) (t : State) (es : List Effect)
+      → asks g.policy e ≡ None → bare e ≡ e
+      → follows (after k h) (turn C g (Goes e t)) ≡ Finished end es → AreAlike H es h r
+      → (rest : List Effect) × AreAlike H (e ∷ rest) h r
+  loaded k g h r e t es none is ran alike = go (missing g e) (ap (unlisted g.words) none) ran
+    where
+      go : (o : Option ℕ) → o ≡ None
+          → follows (after k h) (if has_room C g o then Plays (with_record o e) (noted g o) t
+          else Stops (Trapped LogFull)) ≡ Finished end es
+          → (rest : List Effect) × AreAlike H (e ∷ rest) h r
+      go None q ran =
+          let inv = begun_rest (bare e ∷ []) (after k h (bare e ∷ []) g t) end es ran in (
+            inv.0,
+            subst (λ (e : Effect). AreAlike H (e ∷ inv.0) h r) is
+                (subst (λ (fs : List Effect). AreAlike H fs h r) inv.2 alike),
+          )
+      go (Some w) q ran = absurd (cc)
+
+  pub agree : (k : ℕ) (g : Logging) (s : State) (h r : Words) (es : List Effect)
+      → logged_run image k g s h ≡ Finished end es → AreAlike H es h r → Agrees k g s h r es
+  agree zero g s h r es ran alike = absurd (cc)
+  agree (suc k) g s h r es ran alike =
+      let same : step image s r ≡ step image s h =
+      act_same image h r s (fetch image s)
       (λ w t lt is.
-      let inv = began_rest (Loads w) (after k n h (Loads w) t) end es
-      (ap (follow (after k n h)) (sym (ap tally is)) ∙ ran) in
-      subst (λ (fs : List Effect). AreAlike H fs h r) inv.2 alike w lt (inr (inl refl)))
+      let seen = loaded k g h r (Loads w) t es refl refl
+      (ap (λ (o : StepOutcome). follows (after k h) (turn C g o)) (sym is) ∙ ran) alike in
+      seen.1 w lt (inr (inl refl)))
       (λ w m t fits is u header.
-      let inv = began_rest (Scans w m) (after k n h (Scans w m) t) end es
-      (ap (follow (after k n h)) (sym (ap tally is)) ∙ ran) in
-      subst (λ (fs : List Effect). AreAlike H fs h r) inv.2 alike u
-      (header_below w m u H fits header) (inr (inl header)))) in
-      let on = agree_on k n (step image n s h) h r es (λ m t h r rest. agree k m t h r rest)
-      ran alike in
-      (ap (follow (after k n r)) same ∙ on.0, on.1)
+      let seen = loaded k g h r (Scans w m) t es refl refl
+      (ap (λ (o : StepOutcome). follows (after k h) (turn C g o)) (sym is) ∙ ran) alike in
+      seen.1 u (header_below w m u H fits header) (inr (inl header))) in
+      let on = agree_on k g (step image s h) h r es
+      (λ g t h r rest. agree k g t h r rest) ran alike in
+      (ap (λ (o : StepOutcome). follows (after k r) (turn C g o)) same ∙ on.0, on.1)
 
-  pub alike_due : (a k n : ℕ) (s : State) (c : Cache) (h : Words) (es : List Effect)
-      → AreLines H s.dirty → run image k n s h ≡ Finished end es
+  pub alike_due : (a k : ℕ) (g : Logging) (s : State) (c : Cache) (h : Words) (es : List Effect)
+      → AreLines H s.dirty → logged_run image k g s h ≡ Finished end es
       → AreAlike H es h (heap_in image.parts.sizes c) →
-      due image a k n s c ≡ owed image.parts.sizes a n (heap_in image.parts.sizes c)
+      due image a k g s c ≡ owed image.parts.sizes a g (heap_in image.parts.sizes c)
       (Finished end es)
-  alike_due a k n s c h es lines ran alike =
-      let own : run image k n s (heap_in image.parts.sizes c) ≡ Finished end es =
-      (agree k n s h (heap_in image.parts.sizes c) es ran alike).0 in
-      due_run image a k n s c lines (subst IsFinished (sym own) tt)
-      ∙ ap (owed image.parts.sizes a n (heap_in image.parts.sizes c)) own
+  alike_due a k g s c h es lines ran alike =
+      let own : logged_run image k g s (heap_in image.parts.sizes c) ≡ Finished end es =
+      (agree k g s h (heap_in image.parts.sizes c) es ran alike).0 in
+      due_run image a k g s c lines (subst IsFinished (sym own) tt)
+      ∙ ap (owed image.parts.sizes a g (heap_in image.parts.sizes c)) own

@@ -4,7 +4,7 @@ use Rattle.cache_model.specs.Cache.{Words}
 use Rattle.pm_machine.specs.declared.image.Image.{Image}
 use Rattle.pm_machine.specs.declared.effect.Effect.{Effect}
 use Rattle.pm_machine.specs.declared.effect.End.{End}
-use Rattle.pm_machine.specs.Effects.{heap_past, records_past}
+use Rattle.pm_machine.specs.Effects.{heap_past}
 use Rattle.pm_machine.specs.Machine.{State, StepOutcome, Goes, Ends, Run, Unfinished, Finished}
 use Rattle.pm_machine.specs.Machine.{began, follow, step, run}
 
@@ -22,13 +22,13 @@ more (Goes e t) f g end es next h =
     let inv = began_rest e (f e t) end es h in
     ap (began e) (next e t inv.0 inv.1) ∙ ap (Finished end) (sym inv.2)
 
-pub more_fuel : (image : Image) (k m n : ℕ) (s : State) (heap : Words) (end : End)
-    (es : List Effect) → k ≤ m → run image k n s heap ≡ Finished end es
-    → run image m n s heap ≡ Finished end es
-more_fuel image zero m n s heap end es le h = absurd (cc)
-more_fuel image (suc k) zero n s heap end es le h = absurd (omega arith)
-more_fuel image (suc k) (suc m) n s heap end es le h =
-    more (step image n s heap) (λ e t. run image k (records_past n e) t (heap_past heap e))
-    (λ e t. run image m (records_past n e) t (heap_past heap e)) end es
-    (λ e t rest. more_fuel image k m (records_past n e) t (heap_past heap e) end rest (omega arith))
+pub more_fuel : (image : Image) (k m : ℕ) (s : State) (heap : Words) (end : End)
+    (es : List Effect) → k ≤ m → run image k s heap ≡ Finished end es
+    → run image m s heap ≡ Finished end es
+more_fuel image zero m s heap end es le h = absurd (cc)
+more_fuel image (suc k) zero s heap end es le h = absurd (omega arith)
+more_fuel image (suc k) (suc m) s heap end es le h =
+    more (step image s heap) (λ e t. run image k t (heap_past heap e))
+    (λ e t. run image m t (heap_past heap e)) end es
+    (λ e t rest. more_fuel image k m t (heap_past heap e) end rest (omega arith))
     h

@@ -4,6 +4,7 @@ pub mod Range
 pub mod Leads
 pub mod Dues
 pub mod Fuel
+pub mod Recording
 pub mod Faults
 pub mod Least
 pub mod Searches

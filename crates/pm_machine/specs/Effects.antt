@@ -41,6 +41,17 @@ abbrev pub records_end : ℕ → List Effect → ℕ
 records_end n [] = n
 records_end n (e ∷ es) = records_end (records_past n e) es
 
+-- the number of steps of a run: a record belongs to the step after it
+abbrev pub steps_in : List Effect → ℕ
+steps_in [] = 0
+steps_in (Logs w ∷ es) = steps_in es
+steps_in (Loads w ∷ es) = suc (steps_in es)
+steps_in (Scans w m ∷ es) = suc (steps_in es)
+steps_in (Stores w x ∷ es) = suc (steps_in es)
+steps_in (Flushes l ∷ es) = suc (steps_in es)
+steps_in (Fences ∷ es) = suc (steps_in es)
+steps_in (Quiet ∷ es) = suc (steps_in es)
+
 -- the events of a step, with attempt a, n records so far and the heap so far
 abbrev pub events_of : Sizes → (a n : ℕ) → Words → Effect → List CacheEvent
 events_of s a n heap (Loads w) = []

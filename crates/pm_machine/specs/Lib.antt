@@ -6,6 +6,7 @@ pub mod Transactions
 pub mod Effects
 pub mod Find
 pub mod Machine
+pub mod Logging
 pub mod Runs
 pub mod Answers
 pub mod Inputs

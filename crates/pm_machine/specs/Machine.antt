@@ -9,7 +9,7 @@ use Rattle.indexmap.specs.IndexSet.{insert_key}
 use Rattle.cache_model.specs.Cache.{Words}
 use Rattle.pool_layout.specs.Sizes.{heap_words, slot_word}
 use Rattle.pool_map.specs.declared.trap.TrapKind.{TrapKind}
-use Rattle.pool_map.specs.declared.trap.TrapKind.TheVariants.{Steps, LogFull, Depth}
+use Rattle.pool_map.specs.declared.trap.TrapKind.TheVariants.{Steps, Depth}
 use Rattle.pool_map.specs.Trap.{trap_of}
 use Rattle.nvm_base.specs.Applied.{applied}
 use Rattle.pm_machine.specs.declared.effect.Effect.{Effect}
@@ -25,17 +25,15 @@ use Rattle.pm_machine.specs.declared.op.Function.{Function}
 use Rattle.pm_machine.specs.Transactions.{entry_function}
 use Rattle.pm_machine.specs.declared.image.Image.{Image}
 use Rattle.pm_machine.specs.declared.frame.Frame.{Frame}
-use Rattle.pm_machine.specs.Effects.{heap_past, records_past}
+use Rattle.pm_machine.specs.Effects.{heap_past}
 use Rattle.pm_machine.specs.Find.{least, looks}
 
--- The open function, the frames below it (the innermost last), the ticks left, the LOG instructions
--- done, the heap lines stored to and not yet flushed, in the order of first stores, and the number
--- of registers of a frame.
+-- The open function, the frames below it (the innermost last), the ticks left, the heap lines stored
+-- to and not yet flushed, in the order of first stores, and the number of registers of a frame.
 pub record State : Type 0 where
   pub top : Frame
   pub below : List Frame
   pub ticks : ℕ
-  pub logged : ℕ
   pub dirty : List ℕ
   pub size : ℕ
 
@@ -52,7 +50,6 @@ with_top s f = record {
   top = f;
   below = s.below;
   ticks = s.ticks;
-  logged = s.logged;
   dirty = s.dirty;
   size = s.size;
 }
@@ -111,7 +108,6 @@ stored s w = record {
   top = frame_at s.top (s.top.place + 1);
   below = s.below;
   ticks = s.ticks;
-  logged = s.logged;
   dirty = insert_key nat_eq s.dirty (w / 8);
   size = s.size;
 }
@@ -120,17 +116,16 @@ abbrev pub store : State → ℤ → Option ℕ → StepOutcome
 store s x None = Goes Quiet (passed s)
 store s x (Some w) = Goes (Stores w x) (stored s w)
 
--- LOG, with n records in a log of C
-abbrev pub log : (C n : ℕ) → State → Option ℕ → StepOutcome
-log C n s None = Goes Quiet (passed s)
-log C n s (Some w) = if nat_lt n C then Goes (Logs w) (passed s) else Ends (Trapped LogFull)
+-- LOG asks for a record of its word
+abbrev pub log : State → Option ℕ → StepOutcome
+log s None = Goes Quiet (passed s)
+log s (Some w) = Goes (Logs w) (passed s)
 
 abbrev pub cleaned : State → State
 cleaned s = record {
   top = s.top;
   below = s.below;
   ticks = s.ticks;
-  logged = s.logged;
   dirty = drop 1 s.dirty;
   size = s.size;
 }
@@ -158,7 +153,6 @@ entered s r f args = record {
   };
   below = s.below ++ frame_at s.top (s.top.place + 1) ∷ [];
   ticks = s.ticks;
-  logged = s.logged;
   dirty = s.dirty;
   size = s.size;
 }
@@ -177,7 +171,6 @@ returned s v caller = record {
   };
   below = take (length s.below - 1) s.below;
   ticks = s.ticks;
-  logged = s.logged;
   dirty = s.dirty;
   size = s.size;
 }
@@ -192,7 +185,6 @@ tick_spent s = record {
   below = s.below;
   ticks = s.ticks
       - 1;
-  logged = s.logged;
   dirty = s.dirty;
   size = s.size;
 }
@@ -202,30 +194,30 @@ abbrev pub trap_at : Option TrapKind → TrapKind
 trap_at None = Depth
 trap_at (Some kind) = kind
 
--- One line of the machine's table, given the heap and n records. Past the end of the code the run
--- ends with the trap depth, which never happens in a checked image.
-abbrev pub execute : Image → Words → ℕ → State → Option Op → StepOutcome
-execute image heap n s None = Ends (Trapped Depth)
-execute image heap n s (Some (Const r v)) = Goes Quiet (written s r v)
-execute image heap n s (Some (Mov r a)) = Goes Quiet (written s r (read_register s a))
-execute image heap n s (Some (Bin op r a b)) =
+-- One line of the machine's table, given the heap. Past the end of the code the run ends with the
+-- trap depth, which never happens in a checked image.
+abbrev pub execute : Image → Words → State → Option Op → StepOutcome
+execute image heap s None = Ends (Trapped Depth)
+execute image heap s (Some (Const r v)) = Goes Quiet (written s r v)
+execute image heap s (Some (Mov r a)) = Goes Quiet (written s r (read_register s a))
+execute image heap s (Some (Bin op r a b)) =
     Goes Quiet (written s r (applied op (read_register s a) (read_register s b)))
-execute image heap n s (Some (Jmp t)) = Goes Quiet (moved_to s t)
-execute image heap n s (Some (Jz a t)) =
+execute image heap s (Some (Jmp t)) = Goes Quiet (moved_to s t)
+execute image heap s (Some (Jz a t)) =
     Goes Quiet (if int_eq (read_register s a) (pos 0) then moved_to s t else passed s)
-execute image heap n s (Some (Load r a o)) = load heap s r (target image s a o)
-execute image heap n s (Some (Store a o b)) = store s (read_register s b) (target image s a o)
-execute image heap n s (Some (Find r)) = find image heap s r
-execute image heap n s (Some (Log a o)) = log image.parts.sizes.records n s (target image s a o)
-execute image heap n s (Some Flush) = flush s (slice_get s.dirty 0)
-execute image heap n s (Some Fence) = Goes Fences (passed s)
-execute image heap n s (Some (Call r f args)) = call s r f args
-execute image heap n s (Some (Ret a)) =
+execute image heap s (Some (Load r a o)) = load heap s r (target image s a o)
+execute image heap s (Some (Store a o b)) = store s (read_register s b) (target image s a o)
+execute image heap s (Some (Find r)) = find image heap s r
+execute image heap s (Some (Log a o)) = log s (target image s a o)
+execute image heap s (Some Flush) = flush s (slice_get s.dirty 0)
+execute image heap s (Some Fence) = Goes Fences (passed s)
+execute image heap s (Some (Call r f args)) = call s r f args
+execute image heap s (Some (Ret a)) =
     return s (read_register s a) (slice_get s.below (length s.below - 1))
-execute image heap n s (Some Tick) = if s.ticks == 0 then Ends (Trapped Steps)
+execute image heap s (Some Tick) = if s.ticks == 0 then Ends (Trapped Steps)
     else Goes Quiet (tick_spent s)
-execute image heap n s (Some (Trap k)) = Ends (Trapped (trap_at (trap_of k)))
-execute image heap n s (Some (Halt a)) = Ends (Halted (read_register s a))
+execute image heap s (Some (Trap k)) = Ends (Trapped (trap_at (trap_of k)))
+execute image heap s (Some (Halt a)) = Ends (Halted (read_register s a))
 
 abbrev pub fetch_in : ℕ → Option Function → Option Op
 fetch_in p None = None
@@ -234,43 +226,8 @@ fetch_in p (Some f) = slice_get f.code p
 abbrev pub fetch : Image → State → Option Op
 fetch image s = fetch_in s.top.place (slice_get image.parts.functions s.top.function)
 
--- the heap word that an instruction would store to; none if it isn't a STORE inside the heap
-abbrev pub stored_by : Image → State → Option Op → Option ℕ
-stored_by image s None = None
-stored_by image s (Some (Store a o b)) = target image s a o
-stored_by image s (Some op) = None
-
-abbrev pub due_store : Image → State → Option ℕ
-due_store image s = stored_by image s (fetch image s)
-
--- counts a LOG that was done
-abbrev pub tallied : Effect → State → State
-tallied (Logs w) s = record {
-  top = s.top;
-  below = s.below;
-  ticks = s.ticks;
-  logged = s.logged
-      + 1;
-  dirty = s.dirty;
-  size = s.size;
-}
-tallied (Loads w) s = s
-tallied (Scans w m) s = s
-tallied (Stores w x) s = s
-tallied (Flushes l) s = s
-tallied Fences s = s
-tallied Quiet s = s
-
-abbrev pub tally : StepOutcome → StepOutcome
-tally (Goes e s) = Goes e (tallied e s)
-tally (Ends end) = Ends end
-
--- one step, without counting LOGs
-abbrev pub decide : Image → ℕ → State → Words → StepOutcome
-decide image n s heap = execute image heap n s (fetch image s)
-
-abbrev pub step : Image → ℕ → State → Words → StepOutcome
-step image n s heap = tally (decide image n s heap)
+abbrev pub step : Image → State → Words → StepOutcome
+step image s heap = execute image heap s (fetch image s)
 
 -- a run: its end and its effects; its instructions are as many as the effects, and the last one
 pub data Run : Type 0 where
@@ -285,11 +242,11 @@ abbrev pub follow : (Effect → State → Run) → StepOutcome → Run
 follow rest (Goes e s) = began e (rest e s)
 follow rest (Ends end) = Finished end []
 
--- the run of at most k instructions, starting with n records
-abbrev pub run : Image → (k n : ℕ) → State → Words → Run
-run image zero n s heap = Unfinished
-run image (suc k) n s heap = follow (λ e t. run image k (records_past n e) t (heap_past heap e))
-    (step image n s heap)
+-- The run of at most k instructions, where each LOG gets its record. It depends on no log.
+abbrev pub run : Image → (k : ℕ) → State → Words → Run
+run image zero s heap = Unfinished
+run image (suc k) s heap =
+    follow (λ e t. run image k t (heap_past heap e)) (step image s heap)
 
 -- writes the words into the registers of a frame from number i on
 abbrev pub registers_filled : List ℤ → ℕ → List ℤ → List ℤ
@@ -308,11 +265,10 @@ start image tx args = record {
   };
   below = [];
   ticks = image.parts.sizes.ticks;
-  logged = 0;
   dirty = [];
   size = image.largest;
 }
 
--- the run of a transaction on a heap, starting with no record, of at most k instructions
+-- the run of a transaction on a heap, of at most k instructions
 abbrev pub mrun : Image → ℕ → Words → ℕ → List ℤ → Run
-mrun image k heap tx args = run image k 0 (start image tx args) heap
+mrun image k heap tx args = run image k (start image tx args) heap

@@ -1,5 +1,5 @@
 -- The due events of a run on a device's cache, and the invariants of its steps.
-use Rattle.std.specs.Prelude.{ℕ, zero, suc, ◌*◌, ◌<◌, ◌++◌, List, [], ◌∷◌, length, Option, Some}
+use Rattle.std.specs.Prelude.{◌≡◌, ℕ, zero, suc, ◌*◌, ◌<◌, ◌++◌, List, [], ◌∷◌, Option, Some}
 use Rattle.std.specs.Prelude.{None}
 use Rattle.cache_model.specs.Event.{CacheEvent}
 use Rattle.cache_model.specs.Cache.{Words, Cache, view}
@@ -13,12 +13,15 @@ use Rattle.pm_machine.specs.declared.effect.Effect.TheVariants.{Quiet}
 use Rattle.pm_machine.specs.declared.effect.End.{End}
 use Rattle.pm_machine.specs.declared.effect.End.TheVariants.{Trapped}
 use Rattle.pool_map.specs.declared.trap.TrapKind.TheVariants.{Steps}
-use Rattle.pm_machine.specs.declared.machine.Progress.{Progress}
-use Rattle.pm_machine.specs.declared.machine.Progress.TheVariants as progress
+use Rattle.pm_machine.specs.declared.processor.Progress.{Progress}
+use Rattle.pm_machine.specs.declared.processor.Progress.TheVariants as progress
 use Rattle.pm_machine.specs.declared.image.Image.{Image}
-use Rattle.pm_machine.specs.Effects.{events_of, events_all, records_past, records_end}
-use Rattle.pm_machine.specs.Machine.{State, StepOutcome, Goes, Ends, decide, step, Run}
-use Rattle.pm_machine.specs.Machine.{Unfinished, Finished}
+use Rattle.pm_machine.specs.declared.machine.Went.{Went}
+use Rattle.pm_machine.specs.declared.machine.Went.TheVariants as went
+use Rattle.pm_machine.specs.declared.records.Policy.{Policy}
+use Rattle.pm_machine.specs.Effects.{events_all, records_end, steps_in}
+use Rattle.pm_machine.specs.Machine.{State, StepOutcome, Goes, Ends, Run, Unfinished, Finished}
+use Rattle.pm_machine.specs.Logging.{Logging, Turn, Plays, Stops, turn_of}
 
 -- the heap in the view of a cache
 abbrev pub heap_in : Sizes → Cache → Words
@@ -42,8 +45,8 @@ abbrev pub AreLines : ℕ → List ℕ → Type 0
 AreLines H [] = Unit {0}
 AreLines H (l ∷ ls) = (8 * l < H) × AreLines H ls
 
--- what is due of a run on a cache: its events, its end if it has one, its number of instructions,
--- and the records after it
+-- what is due of a run on a cache: its events, its end if it has one, its number of steps, and the
+-- records after it
 pub record Due : Type 0 where
   pub events : List CacheEvent
   pub fate : Option End
@@ -55,7 +58,7 @@ abbrev pub end_of : Option End → End
 end_of None = Trapped Steps
 end_of (Some end) = end
 
--- the events of this step, and then those from the next state on
+-- the events of this turn, and then those from the next state on
 abbrev pub due_before : List CacheEvent → Due → Due
 due_before es x = record {
   events = es ++ x.events;
@@ -64,41 +67,68 @@ due_before es x = record {
   records = x.records;
 }
 
--- what is due of an outcome, with n records so far
-abbrev pub owing : ℕ → (Effect → List CacheEvent) → (Effect → State → Due) → StepOutcome → Due
-owing n events rest (Goes e t) = due_before (events e) (rest e t)
-owing n events rest (Ends end) = record { events = []; fate = Some end; steps = 1; records = n }
+-- the events of a turn, with attempt a
+abbrev pub turn_events : Sizes → (a : ℕ) → Logging → Words → Turn → List CacheEvent
+turn_events z a g heap (Plays es h t) = events_all z a g.count heap es
+turn_events z a g heap (Stops end) = []
 
--- what is due of the run on the view of a cache, with attempt a and n records, of at most k
--- instructions
-abbrev pub due : Image → (a k n : ℕ) → State → Cache → Due
-due image a zero n s c = record { events = []; fate = None; steps = 0; records = n }
-due image a (suc k) n s c =
-    owing n (events_of image.parts.sizes a n (heap_in image.parts.sizes c))
-    (λ e t. due image a k (records_past n e) t
-    (play c (events_of image.parts.sizes a n (heap_in image.parts.sizes c) e)))
-    (step image n s (heap_in image.parts.sizes c))
+-- what is due of a turn, followed by the rest
+abbrev pub owing : Sizes → (a : ℕ) → Logging → Words → (List Effect → Logging → State → Due) → Turn
+    → Due
+owing z a g heap rest (Plays es h t) =
+    due_before (events_all z a g.count heap es) (rest es h t)
+owing z a g heap rest (Stops end) =
+    record { events = []; fate = Some end; steps = 1; records = g.count }
+
+-- the cache after these effects
+abbrev pub played : Sizes → (a : ℕ) → Logging → Cache → List Effect → Cache
+played z a g c es = play c (events_all z a g.count (heap_in z c) es)
+
+-- what is due of the run on the view of a cache, with attempt a, of at most k turns
+abbrev pub due : Image → (a k : ℕ) → Logging → State → Cache → Due
+due image a zero g s c = record { events = []; fate = None; steps = 0; records = g.count }
+due image a (suc k) g s c =
+    owing image.parts.sizes a g (heap_in image.parts.sizes c)
+    (λ es h t. due image a k h t (played image.parts.sizes a g c es))
+    (turn_of image g s (heap_in image.parts.sizes c))
+
+-- a run that begins on this cache
+abbrev pub logging_on : Policy → Sizes → Cache → Logging
+logging_on p s c = record { policy = p; count = count_in s (view c); words = [] }
 
 -- what is due of the run on a pool, whose attempt and records are those in the view
-abbrev pub due_on : Image → State → Cache → Due
-due_on image s c = due image (attempt_in image.parts.sizes (view c)) image.parts.most
-    (count_in image.parts.sizes (view c)) s c
+abbrev pub due_on : Policy → Image → State → Cache → Due
+due_on p image s c =
+    due image (attempt_in image.parts.sizes (view c)) image.parts.most
+    (logging_on p image.parts.sizes c) s c
 
--- the events of the next step, with attempt a and n records
-abbrev pub due_step : Image → (a n : ℕ) → State → Cache → List CacheEvent
-due_step image a n s c =
-    events_of image.parts.sizes a n (heap_in image.parts.sizes c)
-    (effect_in (decide image n s (heap_in image.parts.sizes c)))
+-- the events of the next turn, with attempt a
+abbrev pub due_step : Image → (a : ℕ) → Logging → State → Cache → List CacheEvent
+due_step image a g s c =
+    turn_events image.parts.sizes a g (heap_in image.parts.sizes c)
+    (turn_of image g s (heap_in image.parts.sizes c))
 
--- what is due of a run that starts with n records and this heap
-abbrev pub owed : Sizes → (a n : ℕ) → Words → Run → Due
-owed s a n heap Unfinished = record { events = []; fate = None; steps = 0; records = n }
-owed s a n heap (Finished end es) =
+-- the machine went on as this turn goes on, or ended as it ends
+abbrev pub IsTurn : Went → Logging → State → Turn → Type 0
+IsTurn went.On g s (Plays es h t) = (g ≡ h) × (s ≡ t)
+IsTurn went.On g s (Stops end) = ⊥
+IsTurn (went.Ended e) g s (Plays es h t) = ⊥
+IsTurn (went.Ended e) g s (Stops end) = e ≡ end
+
+-- this holds where the run has ended
+abbrev pub IfEnded : Went → Type 0 → Type 0
+IfEnded went.On A = Unit {0}
+IfEnded (went.Ended e) A = A
+
+-- what is due of a run that begins with this heap
+abbrev pub owed : Sizes → (a : ℕ) → Logging → Words → Run → Due
+owed s a g heap Unfinished = record { events = []; fate = None; steps = 0; records = g.count }
+owed s a g heap (Finished end es) =
     record {
-      events = events_all s a n heap es;
+      events = events_all s a g.count heap es;
       fate = Some end;
-      steps = suc (length es);
-      records = records_end n es;
+      steps = suc (steps_in es);
+      records = records_end g.count es;
     }
 
 abbrev pub IsFinished : Run → Type 0

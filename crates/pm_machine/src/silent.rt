@@ -14,8 +14,8 @@ ghost use Rattle.pm_machine.specs.inside.Runs.{GoesSilently, StretchLeads, worke
 
 use crate::frame::RegisterWords;
 use crate::image::Image;
-use crate::machine::word_at;
 use crate::op::Op;
+use crate::processor::word_at;
 use nvm_base::Steps;
 use pmem::PmemWork;
 use std::sync::ledger::Ledger;
@@ -103,9 +103,9 @@ fn act<P: PmemWork>(
 ) -> Option<usize>
     requires place { place < 2 ^ 63 }
     requires lines { (P.device dev.now).lines ≡ pool_lines image.now.parts.sizes }
-    ensures done { (n : ℕ) (s : State) → IfSome result (λ p.
+    ensures done { (s : State) → IfSome result (λ p.
         GoesSilently (worked s registers.new ticks.new p) (execute image.now
-        (heap_in image.now.parts.sizes (P.device dev.now).cache) n
+        (heap_in image.now.parts.sizes (P.device dev.now).cache)
         (worked s registers.old ticks.old place) (Some op.now))) }
     ensures registers { IfNone result (registers.new ≡ registers.old) }
     ensures ticks { IfNone result (ticks.new ≡ ticks.old) }
@@ -161,9 +161,9 @@ fn step<P: PmemWork>(
     place: usize,
 ) -> Option<usize>
     requires lines { (P.device dev.now).lines ≡ pool_lines image.now.parts.sizes }
-    ensures done { (n : ℕ) (s : State) → IfSome result (λ p.
+    ensures done { (s : State) → IfSome result (λ p.
         GoesSilently (worked s registers.new ticks.new p) (execute image.now
-        (heap_in image.now.parts.sizes (P.device dev.now).cache) n
+        (heap_in image.now.parts.sizes (P.device dev.now).cache)
         (worked s registers.old ticks.old place) (slice_get code.now place))) }
     ensures registers { IfNone result (registers.new ≡ registers.old) }
     ensures ticks { IfNone result (ticks.new ≡ ticks.old) }

@@ -2,7 +2,7 @@
 
 ghost use Rattle.std.specs.Prelude.{◌≡◌, ◌≤◌, ◌-◌, true, length, IfSome, IsSome, option_map};
 ghost use Rattle.pm_machine.specs.Machine.{start};
-ghost use Rattle.pm_machine.specs.Stops.{stop_in};
+ghost use Rattle.pm_machine.specs.Stops.{stop_of};
 
 use crate::image::Image;
 use crate::machine::Machine;
@@ -33,7 +33,7 @@ impl Spare {
     ) -> Option<&mut Machine>
         requires first { 1 ≤ tx }
         requires last { tx ≤ length image.now.parts.txs }
-        ensures { IfSome result (λ m. m.now ≡ start image.now tx args.now) }
+        ensures { IfSome result (λ m. m.now.processor ≡ start image.now tx args.now) }
     {
         if !self.restart(image, tx, args) {
             match Machine::new(alloc, image, tx, args) {
@@ -46,7 +46,7 @@ impl Spare {
 
     /// Where the machine that is kept stands: after a run, where that ended.
     pub fn stop(&self) -> Option<Stop>
-        ensures { result ≡ option_map stop_in self.now.kept }
+        ensures { result ≡ option_map stop_of self.now.kept }
     {
         match &self.kept {
             Some(machine) => Some(machine.stop()),
@@ -59,7 +59,7 @@ impl Spare {
     fn restart(&mut self, image: &Image, tx: u64, args: &[i64]) -> bool
         requires first { 1 ≤ tx }
         requires last { tx ≤ length image.now.parts.txs }
-        ensures { result ≡ true → IfSome self.new.kept (λ m. m ≡ start image.now tx args.now) }
+        ensures { result ≡ true → IfSome self.new.kept (λ m. m.processor ≡ start image.now tx args.now) }
     {
         match &mut self.kept {
             Some(machine) => machine.restart(image, tx, args),

@@ -1,9 +1,10 @@
 -- The effect of a turn of a transaction.
 use Rattle.std.proofs.Common.{◌≡◌, ◌≢◌, ℕ, ◌-◌, ◌≤◌, ◌^◌, ◌==◌, if◌then◌else◌, Bool, true, false}
-use Rattle.std.proofs.Common.{List, take, Option, Some, ℤ, w64, refl, sym, ap, ◌∙◌, subst, arith}
+use Rattle.std.proofs.Common.{List, [], take, length, Option, Some, ℤ, w64, refl, sym, ap, ap₂, ◌∙◌}
+use Rattle.std.proofs.Common.{subst, arith}
 use Rattle.std.specs.Int.{cast_signed}
 use Rattle.std.proofs.lemmas.Bool.{eqb-false}
-use Rattle.cache_model.specs.Cache.{Words, view}
+use Rattle.cache_model.specs.Cache.{Cache, view}
 use Rattle.pmem.specs.Device.{Device}
 use Rattle.pmem.specs.Played.{PlaysAll}
 use Rattle.pmem.specs.declared.answer.Phase.{Phase}
@@ -13,40 +14,49 @@ use Rattle.pmem.proofs.Glue.{part_left, part_right}
 use Rattle.pmem.proofs.Refused.{all_cache}
 use Rattle.pool_layout.specs.declared.places.TheConstants.{DONE, ARGUMENTS}
 use Rattle.pool_layout.specs.Sizes.{heap_words}
+use Rattle.pool_layout.specs.declared.limits.Sizes.{Sizes}
+use Rattle.pool_layout.specs.Places.{pool_of}
+use Rattle.pool_layout.specs.Log.{count}
+use Rattle.clobber_log.specs.Logs.{attempt_in, count_in}
 use Rattle.args_log.specs.Next.{number_after}
 use Rattle.args_log.specs.Seal.{sealing_events, seal_events}
 use Rattle.args_log.specs.Sealing as sealing
 use Rattle.args_log.specs.declared.sealing.SealAnswer.TheVariants as seal
-use Rattle.pm_machine.specs.declared.effect.Effect.{Effect}
-use Rattle.pm_machine.specs.declared.effect.Effect.TheVariants.{Loads, Scans, Stores, Logs, Flushes}
-use Rattle.pm_machine.specs.declared.effect.Effect.TheVariants.{Fences, Quiet}
+use Rattle.pm_machine.specs.declared.effect.End.{End}
 use Rattle.pm_machine.specs.declared.effect.End.TheVariants.{Trapped}
 use Rattle.pool_map.specs.declared.trap.TrapKind.TheVariants.{Steps}
 use Rattle.pm_machine.specs.declared.image.Image.{Image}
-use Rattle.pm_machine.specs.declared.machine.Progress.{Progress}
-use Rattle.pm_machine.specs.declared.machine.Progress.TheVariants.{Did}
-use Rattle.pm_machine.specs.Effects.{records_past}
-use Rattle.pm_machine.specs.Machine.{State, step}
-use Rattle.pm_machine.specs.Runs.{AreLines, outcome_of}
-use Rattle.pm_machine.proofs.Range.{keeps_progress, records_fit}
+use Rattle.pm_machine.specs.declared.machine.Machine.{Machine}
+use Rattle.pm_machine.specs.declared.records.Policy.TheVariants.{EndPool}
+use Rattle.pm_machine.specs.declared.machine.Went.{Went}
+use Rattle.pm_machine.specs.declared.machine.Went.TheVariants as went
+use Rattle.pm_machine.specs.Logging.{Logging, Turn, Plays, Stops, turn_of}
+use Rattle.pm_machine.specs.Machine.{State, step, start}
+use Rattle.pm_machine.specs.Runs.{heap_in, AreLines, IsTurn, IfEnded, due_step, logging_on}
+use Rattle.pm_machine.proofs.Range.{keeps_step}
+use Rattle.pm_machine.proofs.Recording.{turn_keeps}
 use Rattle.tx_run.specs.Due.{due_seal, due_unsealed}
 use Rattle.pool_workers.specs.declared.answer.TurnAnswer.{TurnAnswer}
 use Rattle.pool_workers.specs.declared.answer.TurnAnswer.TheVariants as answer
+use Rattle.pool_workers.specs.declared.task.Stepped.{Stepped}
 use Rattle.pool_workers.specs.declared.task.Task.{Task}
 use Rattle.pool_workers.specs.declared.task.Task.TheVariants.{Begun, Running, Ending, Cut}
-use Rattle.pool_workers.specs.Task.{going, sealed_task, Turned, IsTask}
+use Rattle.pool_workers.specs.Task.{machine_at, first_machine, going, sealed_task, stepped_task}
+use Rattle.pool_workers.specs.Task.{Turned, IsTask}
+use Rattle.pool_workers.specs.inside.Task.{stepped_left, stepped_answer}
 
-pub going_task : (image : Image) (s : State) (a n k : ℕ) →
-    AreLines (heap_words image.parts.sizes) s.dirty → s.logged ≤ n →
-    n ≤ image.parts.sizes.records → a ≤ 2 ^ 63 - 2 → IsTask image (going s a n k)
-going_task image s a n k lines few room fits = by_test (k == 0) refl
+pub going_task : (image : Image) (m : Machine) (a k : ℕ) →
+    AreLines (heap_words image.parts.sizes) m.processor.dirty → a ≤ 2 ^ 63 - 2 →
+    IsTask image (going m a k)
+going_task image m a k lines fits = by_test (k == 0) refl
   where
     by_test : (b : Bool) → (k == 0) ≡ b →
-        IsTask image (if b then Ending (Trapped Steps) s.logged else Running s a n k)
+        IsTask image (if b then Ending (Trapped Steps) (length m.records.words)
+        else Running m a k)
     by_test true is = tt
-    by_test false is = (lines, few, room, fits, (let ne : k ≢ 0 = eqb-false k 0 is in omega arith))
+    by_test false is = (lines, fits, (let ne : k ≢ 0 = eqb-false k 0 is in omega arith))
 
-module _ (image : Image) (tx : ℕ) (args : List ℤ) (s : State) (d b : Device) where
+module _ (image : Image) (tx : ℕ) (args : List ℤ) (s : Machine) (d b : Device) where
   pub seal_whole : (t : Task) → PlaysAll d (due_seal tx args d.cache) b →
       t ≡ sealed_task image s b.cache → Turned answer.Went image (Begun tx args s) (Some t) d b
   seal_whole t all is = (
@@ -79,22 +89,80 @@ module _ (image : Image) (tx : ℕ) (args : List ℤ) (s : State) (d b : Device)
       (subst (λ (x : Option Task). Turned answer.Off image (Begun tx args s) x d b) (sym is_cut)
       (seal_part p h))
 
--- there are no more LOGs than records
-few_past : (l n : ℕ) (e : Effect) → l ≤ n → records_past l e ≤ records_past n e
-few_past l n (Loads w) le = le
-few_past l n (Scans w m) le = le
-few_past l n (Stores w x) le = le
-few_past l n (Logs w) le = omega arith
-few_past l n (Flushes l') le = le
-few_past l n Fences le = le
-few_past l n Quiet le = le
+-- a machine that was begun on no record, at its first place
+pub first_is : (image : Image) (tx : ℕ) (args : List ℤ) (m : Machine) →
+    m.processor ≡ start image tx args →
+    m.records ≡ record { policy = EndPool; count = 0; words = [] } →
+    m ≡ first_machine image tx args
+first_is image tx args m state log = λ i. machine_at (state i) (log i)
 
-pub step_task : (image : Image) (heap : Words) (s t : State) (a n k : ℕ) (p : Progress)
-    (e : Effect) → IsTask image (Running s a n k) → p ≡ Did e →
-    outcome_of p t ≡ step image n s heap → (j : ℕ) → IsTask image (going t a (records_past n e) j)
-step_task image heap s t a n k p e task did is j =
-    let keeps = keeps_progress image heap n s p e t task.0 did is in
-    going_task image t a (records_past n e) j keeps.1
-    (subst (λ (i : ℕ). i ≤ records_past n e) (sym keeps.2) (few_past s.logged n e task.1))
-    (records_fit image.parts.sizes.records (heap_words image.parts.sizes) n e keeps.0 task.2)
-    task.3
+-- after the seal, from the attempt and the records that were read
+pub sealed_run : (image : Image) (m n : Machine) (a r most : ℕ) (t : Task) (c : Cache)
+    (y x : Sizes) → y ≡ image.parts.sizes → x ≡ image.parts.sizes → a ≡ attempt_in y (view c) →
+    r ≡ count (pool_of x) a (view c) → most ≡ image.parts.most → n.processor ≡ m.processor →
+    n.records ≡ record { policy = EndPool; count = r; words = [] } → t ≡ going n a most →
+    t ≡ sealed_task image m c
+sealed_run image m n a r most t c y x ys xs a_read r_read most_is state log is =
+    let z = image.parts.sizes in
+    let a_is : a ≡ attempt_in z (view c) = a_read ∙ ap (λ (s : Sizes). attempt_in s (view c)) ys in
+    let r_is : r ≡ count_in z (view c) =
+    r_read ∙ ap₂ (λ (s : Sizes) (b : ℕ). count (pool_of s) b (view c)) xs a_is in
+    let log_is : n.records ≡ logging_on EndPool z c =
+    log ∙ (λ i. record { policy = EndPool; count = r_is i; words = [] }) in
+    is ∙ (λ i. going (machine_at (state i) (log_is i)) (a_is i) (most_is i))
+
+-- what an instruction leaves, where the machine went as its turn goes
+module _ (image : Image) (m t : Machine) (a k : ℕ) (d b : Device) (w : Went) where
+  abbrev next : Turn
+  next = turn_of image m.records m.processor (heap_in image.parts.sizes d.cache)
+
+  on_past : (x : Turn) → IsTurn went.On t.records t.processor x →
+      going t a (k - 1) ≡ stepped_task a k m.records x
+  on_past (Plays es h s) is =
+      ap₂ (λ (g : Logging) (u : State). going (machine_at u g) a (k - 1)) is.0 is.1
+  on_past (Stops end) is = absurd is
+
+  over_past : (end : End) (x : Turn) → IsTurn (went.Ended end) t.records t.processor x →
+      t.records ≡ m.records →
+      Ending end (length t.records.words) ≡ stepped_task a k m.records x
+  over_past end (Plays es h s) is same = absurd is
+  over_past end (Stops other) is same =
+      ap₂ (λ (e : End) (g : Logging). Ending e (length g.words)) is same
+
+  pub on_task : IsTask image (Running m a k) → w ≡ went.On →
+      IsTurn w t.records t.processor next → (j : ℕ) → IsTask image (going t a j)
+  on_task task on is j =
+      let z = image.parts.sizes in
+      let heap = heap_in z d.cache in
+      let o = step image m.processor heap in
+      going_task image t a j
+      (turn_keeps z.records (heap_words z) m.records t.records t.processor o
+      (keeps_step image heap m.processor o task.0 refl)
+      (subst (λ (v : Went). IsTurn v t.records t.processor next) on is)) task.1
+
+  pub on_turned : (s : Stepped) → w ≡ went.On → IsTurn w t.records t.processor next →
+      PlaysAll d (due_step image a m.records m.processor d.cache) b →
+      stepped_answer s ≡ answer.Went → stepped_left s t a (k - 1) ≡ going t a (k - 1) →
+      Turned (stepped_answer s) image (Running m a k) (Some (stepped_left s t a (k - 1))) d b
+  on_turned s on is all told left =
+      subst (λ (x : TurnAnswer). Turned x image (Running m a k)
+      (Some (stepped_left s t a (k - 1))) d b) (sym told) (
+        refl,
+        ap Some (left
+            ∙ on_past next (subst (λ (v : Went). IsTurn v t.records t.processor next) on is)),
+        all,
+      )
+
+  pub over_turned : (end : End) (l : ℕ) → w ≡ went.Ended end →
+      IsTurn w t.records t.processor next → IfEnded w (t.records ≡ m.records) →
+      PlaysAll d (due_step image a m.records m.processor d.cache) b →
+      l ≡ length t.records.words →
+      Turned answer.Went image (Running m a k) (Some (Ending end l)) d b
+  over_turned end l over is same all long = (
+    refl,
+    ap Some (ap (Ending end) long
+        ∙ over_past end next
+        (subst (λ (v : Went). IsTurn v t.records t.processor next) over is)
+        (subst (λ (v : Went). IfEnded v (t.records ≡ m.records)) over same)),
+    all,
+  )

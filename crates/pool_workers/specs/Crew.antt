@@ -6,7 +6,6 @@ use Rattle.cache_model.specs.Cache.{view}
 use Rattle.pmem.specs.Device.{Device}
 use Rattle.pool_layout.specs.Sizes.{pool_lines}
 use Rattle.pm_machine.specs.declared.image.Image.{Image}
-use Rattle.pm_machine.specs.Machine.{start}
 use Rattle.tx_run.specs.declared.standing.Standing.{Standing}
 use Rattle.tx_run.specs.Standing.{standing_of}
 use Rattle.pool_workers.specs.declared.answer.BeginAnswer.{BeginAnswer}
@@ -15,7 +14,7 @@ use Rattle.pool_workers.specs.declared.answer.TurnAnswer.{TurnAnswer}
 use Rattle.pool_workers.specs.declared.task.Task.{Task}
 use Rattle.pool_workers.specs.declared.task.Task.TheVariants.{Begun}
 use Rattle.pool_workers.specs.Compartment.{device_in, first_line, Aside}
-use Rattle.pool_workers.specs.Task.{IsTaskOr, IsUncutOr, Turned}
+use Rattle.pool_workers.specs.Task.{IsTaskOr, IsUncutOr, Turned, first_machine}
 
 abbrev pub Tasks : Type 0
 Tasks = List (Option Task)
@@ -61,7 +60,7 @@ standing_at image worker d = standing_of (view (compartment image worker d).cach
 
 -- the answer for a worker without a transaction whose pool takes one
 abbrev pub Begins : BeginAnswer → Image → (tx : ℕ) → List ℤ → Option Task → Type 0
-Begins begin.Started image tx args o = o ≡ Some (Begun tx args (start image tx args))
+Begins begin.Started image tx args o = o ≡ Some (Begun tx args (first_machine image tx args))
 Begins begin.NoMemory image tx args o = o ≡ None
 Begins begin.Busy image tx args o = ⊥
 Begins (begin.Unusable k) image tx args o = ⊥

@@ -32,7 +32,7 @@ pub enum TurnAnswer {
     Idle,
     /// A piece was played, and another follows.
     Went,
-    /// The transaction is retired; `logged` is the number of LOG instructions of its run.
+    /// The transaction is retired; `logged` is the number of words of which its run has a record.
     Done { value: i64, logged: u64 },
     /// The run trapped, and the mark is durable.
     Trap(TrapKind),

@@ -3,6 +3,7 @@
 ghost use Rattle.std.specs.Prelude.{◌≡◌, ◌+◌, ◌≤◌, ◌<◌, true, false};
 ghost use Rattle.pool_layout.specs.Sizes.{pool_lines};
 ghost use Rattle.pmem.specs.declared.answer.Phase.TheVariants as at_phase;
+ghost use Rattle.pm_machine.specs.declared.records.Policy.TheVariants.{EndPool};
 ghost use Rattle.recovery.specs.Recovered.{IsRecovered};
 ghost use Rattle.pool_workers.specs.Compartment.{first_line};
 ghost use Rattle.pool_workers.specs.Task.{Turned, IsTask, IsUncut, IsUncutOr, IsGoing, ticks_of};
@@ -15,7 +16,7 @@ use crate::task::Task;
 use crate::turning::advance;
 use crate::window::{Origin, Window, first_line};
 use nvm_base::Steps;
-use pm_machine::{Image, Spare};
+use pm_machine::{Image, Policy, Spare};
 use pmem::{Phase, Pmem};
 use pool_layout::{LAST, pool_lines};
 use recovery::{RecoverAnswer, recover_with};
@@ -117,7 +118,7 @@ pub(crate) fn recover_on<P: Pmem + Drop, L: Ledger, O: Origin>(
     requires lines { O.lines ≡ pool_lines image.now.parts.sizes }
     requires whole { O.whole ≡ P.device dev.old }
     requires inside { HasCompartment image.now worker (P.device dev.old) }
-    ensures recovered { IsRecovered result image.now
+    ensures recovered { IsRecovered result EndPool image.now
         (compartment image.now worker (P.device dev.old))
         (compartment image.now worker (P.device dev.new)) steps.old steps.new }
     ensures off { (P.device dev.old).on ≡ false → result ≡ RecoverAnswer.Off at_phase.Unsealed }
@@ -130,7 +131,7 @@ pub(crate) fn recover_on<P: Pmem + Drop, L: Ledger, O: Origin>(
         return RecoverAnswer::Off(Phase::Unsealed);
     };
     let mut window: Window<P, O> = Window::new(dev.take(), image.sizes(), worker);
-    let answer = recover_with(alloc, spare, image, &mut window, steps);
+    let answer = recover_with(alloc, spare, image, Policy::EndPool, &mut window, steps);
     *dev = window.into_device();
     answer
 }

@@ -19,12 +19,10 @@ pub enum Task {
         args: Words,
         machine: Machine,
     },
-    /// An instruction, in a pool with this attempt and number of records. At most `left`
-    /// instructions are left.
+    /// An instruction, in a pool with this attempt. At most `left` instructions are left.
     Running {
         machine: Machine,
         attempt: u64,
-        records: u64,
         left: u128,
     },
     /// The end of the run: it is retired, or the pool is marked.
@@ -39,8 +37,8 @@ pub enum Task {
 }
 
 /// A run that goes on. If no more instructions are allowed it ends as if it had no tick left.
-pub(crate) fn going(machine: Machine, attempt: u64, records: u64, left: u128) -> Task
-    ensures going { result ≡ going machine attempt records left }
+pub(crate) fn going(machine: Machine, attempt: u64, left: u128) -> Task
+    ensures going { result ≡ going machine attempt left }
     ensures uncut { IsUncut result }
 {
     if left == 0 {
@@ -52,7 +50,6 @@ pub(crate) fn going(machine: Machine, attempt: u64, records: u64, left: u128) ->
     Task::Running {
         machine,
         attempt,
-        records,
         left,
     }
 }

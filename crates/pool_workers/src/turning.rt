@@ -2,10 +2,9 @@
 
 ghost use Rattle.std.specs.Prelude.{ℕ, ◌≡◌, ◌+◌, true, Some, []};
 ghost use Rattle.pool_layout.specs.Sizes.{pool_lines};
-ghost use Rattle.pm_machine.specs.Machine.{start};
 ghost use Rattle.pool_workers.specs.declared.task.Task.TheVariants as task_of;
-ghost use Rattle.pool_workers.specs.Task.{sealed_task, Turned, IsTask, IsTaskOr, IsUncut};
-ghost use Rattle.pool_workers.specs.Task.{IsUncutOr, IsGoing, ticks_of, going};
+ghost use Rattle.pool_workers.specs.Task.{first_machine, sealed_task, Turned, IsTask, IsTaskOr};
+ghost use Rattle.pool_workers.specs.Task.{IsUncut, IsUncutOr, IsGoing, ticks_of, going};
 ghost use Rattle.pool_workers.specs.inside.Task.{IsBegun, left_task, stepped_left, stepped_answer};
 ghost use Rattle.pool_workers.specs.inside.Task.{settled};
 
@@ -14,18 +13,17 @@ use crate::task::{Stepped, Task, cut, going, last};
 use args_log::{SealAnswer, mark_unusable, retire, seal};
 use clobber_log::{attempt, count};
 use nvm_base::{Steps, Words};
-use pm_machine::{End, Image, Machine, Progress, records_past};
+use pm_machine::{End, Image, Machine, Policy, Went};
 use pmem::{Phase, PmemWork, Refusal};
 use pool_map::TrapKind;
 use std::mem;
 use std::sync::ledger::Ledger;
 
 /// The run of a call that was sealed.
-fn sealed<P: PmemWork>(image: &Image, machine: Machine, dev: &P) -> Task
+fn sealed<P: PmemWork>(image: &Image, mut machine: Machine, dev: &P) -> Task
     requires lines { (P.device dev.now).lines ≡ pool_lines image.now.parts.sizes }
     requires on { (P.device dev.now).on ≡ true }
-    requires clean { machine.dirty ≡ [] }
-    requires none { machine.logged ≡ 0 }
+    requires clean { machine.processor.dirty ≡ [] }
     ensures run { result ≡ sealed_task image.now machine (P.device dev.now).cache }
     ensures task { IsTask image.now result }
 {
@@ -35,7 +33,8 @@ fn sealed<P: PmemWork>(image: &Image, machine: Machine, dev: &P) -> Task
     let Some(count) = count(image.sizes(), dev, attempt) else {
         unreachable!()
     };
-    going(machine, attempt, count, image.most())
+    machine.begin(Policy::EndPool, count);
+    going(machine, attempt, image.most())
 }
 
 /// The answer of the turn that seals a call, and what it leaves.
@@ -55,7 +54,7 @@ fn seal_turn<P: PmemWork>(
 ) -> SealTurn
     requires lines { (P.device dev.old).lines ≡ pool_lines image.now.parts.sizes }
     requires on { (P.device dev.old).on ≡ true }
-    requires start { machine ≡ start image.now tx args }
+    requires start { machine ≡ first_machine image.now tx args }
     ensures turned { Turned result.answer image.now (task_of.Begun tx args machine)
         (left_task result.answer result.task) (P.device dev.old) (P.device dev.new) }
     ensures uncut { IsGoing result.answer → IsUncutOr (left_task result.answer result.task) }
@@ -113,8 +112,7 @@ fn first_turn<P: PmemWork>(image: &Image, task: &mut Task, dev: &mut P) -> TurnA
 
 /// Whether a run goes on. If no more instructions are allowed it ends as if it had no tick left.
 fn goes_on(machine: &Machine, left: u128) -> Stepped
-    ensures left { (a n : ℕ)
-        → stepped_left result machine.now a n left ≡ going machine.now a n left }
+    ensures left { (a : ℕ) → stepped_left result machine.now a left ≡ going machine.now a left }
     ensures answer { stepped_answer result ≡ TurnAnswer.Went }
 {
     if left == 0 {
@@ -126,37 +124,35 @@ fn goes_on(machine: &Machine, left: u128) -> Stepped
     Stepped::On
 }
 
-/// One instruction of a run.
+/// One instruction of a run, after its record if it takes one.
 fn step_turn<P: PmemWork>(
     image: &Image,
     machine: &mut Machine,
     attempt: u64,
-    records: &mut u64,
     left: &mut u128,
     dev: &mut P,
 ) -> Stepped
     requires lines { (P.device dev.old).lines ≡ pool_lines image.now.parts.sizes }
     requires on { (P.device dev.old).on ≡ true }
-    requires task { IsTask image.now
-        (task_of.Running machine.old attempt records.old left.old) }
+    requires task { IsTask image.now (task_of.Running machine.old attempt left.old) }
     ensures turned { Turned (stepped_answer result) image.now
-        (task_of.Running machine.old attempt records.old left.old)
-        (Some (stepped_left result machine.new attempt records.new left.new))
+        (task_of.Running machine.old attempt left.old)
+        (Some (stepped_left result machine.new attempt left.new))
         (P.device dev.old) (P.device dev.new) }
     ensures uncut { IsGoing (stepped_answer result) →
-        IsUncut (stepped_left result machine.new attempt records.new left.new) }
-    ensures task { IsTask image.now
-        (stepped_left result machine.new attempt records.new left.new) }
+        IsUncut (stepped_left result machine.new attempt left.new) }
+    ensures task { IsTask image.now (stepped_left result machine.new attempt left.new) }
     ensures lines { (P.device dev.new).lines ≡ (P.device dev.old).lines }
 {
-    let logged = machine.logged();
-    match machine.step_on(image, attempt, *records, dev) {
-        Ok(Progress::Did(effect)) => {
-            *records = records_past(*records, effect);
+    match machine.step_on(image, attempt, dev) {
+        Ok(Went::On) => {
             *left -= 1;
             goes_on(machine, *left)
         }
-        Ok(Progress::Ended(end)) => Stepped::Over { end, logged },
+        Ok(Went::Ended(end)) => Stepped::Over {
+            end,
+            logged: machine.logged(),
+        },
         Err(Refusal::Off) => Stepped::Refused(Refusal::Off),
         Err(Refusal::Failed) => Stepped::Refused(Refusal::Failed),
         Err(Refusal::NoMemory) => Stepped::Refused(Refusal::NoMemory),
@@ -225,11 +221,10 @@ pub(crate) fn advance<P: PmemWork, L: Ledger>(
         Task::Running {
             machine,
             attempt,
-            records,
             left,
         } => {
             steps.tick();
-            let stepped = step_turn(image, machine, *attempt, records, left, dev);
+            let stepped = step_turn(image, machine, *attempt, left, dev);
             settle(task, stepped)
         }
         Task::Begun { .. } => first_turn(image, task, dev),

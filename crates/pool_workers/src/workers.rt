@@ -7,13 +7,13 @@ ghost use Rattle.pmem.specs.Played.{PlaysAll};
 ghost use Rattle.pool_layout.specs.Sizes.{pool_lines};
 ghost use Rattle.pool_map.specs.declared.trap.TrapKind.{TrapKind};
 ghost use Rattle.pmem.specs.declared.answer.Phase.TheVariants as at_phase;
-ghost use Rattle.pm_machine.specs.Machine.{start};
+ghost use Rattle.pm_machine.specs.declared.records.Policy.TheVariants.{EndPool};
 ghost use Rattle.tx_run.specs.declared.standing.Standing.TheVariants as stands;
 ghost use Rattle.recovery.specs.Recovered.{IsRecovered};
 ghost use Rattle.pool_workers.specs.declared.answer.BeginAnswer.TheVariants as begins;
 ghost use Rattle.pool_workers.specs.declared.task.Task.{Task};
 ghost use Rattle.pool_workers.specs.declared.task.Task.TheVariants as task_of;
-ghost use Rattle.pool_workers.specs.Task.{IsUncutOr, IsGoing, ticks_of, task_phase};
+ghost use Rattle.pool_workers.specs.Task.{first_machine, IsUncutOr, IsGoing, ticks_of, task_phase};
 ghost use Rattle.pool_workers.specs.Making.{creations, Unmade};
 ghost use Rattle.pool_workers.specs.Crew.{task_at, AreTasks, OtherTasksStay, compartment};
 ghost use Rattle.pool_workers.specs.Crew.{HasCompartments, StaysAside, standing_at, Begins, TurnOf};
@@ -25,7 +25,7 @@ use crate::standing::assess_at;
 use crate::task::{Task, is_last, phase_of, stop_of};
 use crate::window::first_line;
 use nvm_base::{Steps, Words};
-use pm_machine::{Image, Machine, Spare, Stop};
+use pm_machine::{Image, Machine, Policy, Spare, Stop};
 use pmem::{Phase, Pmem, PmemWork};
 use recovery::RecoverAnswer;
 use std::alloc::{AllocError, Global};
@@ -66,12 +66,15 @@ fn copied(alloc: Global, words: &[i64]) -> Result<Words, AllocError>
 }
 
 /// A transaction at its start. The memory for the machine's frames is allocated here.
+#[tactic(auto, using(crate::proofs::Turns::first_is))]
 fn new_task(alloc: Global, image: &Image, tx: u64, args: &[i64]) -> Result<Task, AllocError>
     requires first { 1 ≤ tx }
     requires last { tx ≤ length image.now.parts.txs }
-    ensures { IfOk result (λ t. t ≡ task_of.Begun tx args.now (start image.now tx args.now)) }
+    ensures { IfOk result
+        (λ t. t ≡ task_of.Begun tx args.now (first_machine image.now tx args.now)) }
 {
-    let machine = Machine::new(alloc, image, tx, args)?;
+    let mut machine = Machine::new(alloc, image, tx, args)?;
+    machine.begin(Policy::EndPool, 0);
     let args = copied(alloc, args)?;
     Ok(Task::Begun { tx, args, machine })
 }
@@ -218,7 +221,7 @@ impl Workers {
         requires worker { worker < length self.old }
         requires tasks { AreTasks image.now self.old }
         requires lines { HasCompartments image.now self.old (P.device dev.old) }
-        ensures recovered { IsRecovered result image.now
+        ensures recovered { IsRecovered result EndPool image.now
             (compartment image.now worker (P.device dev.old))
             (compartment image.now worker (P.device dev.new)) steps.old steps.new }
         ensures off { (P.device dev.old).on ≡ false →

@@ -100,7 +100,7 @@ fn missing(
         );
     }
     if able.contains(&":") && is_one(near.here(), &[";", ")", ",", "]", "}"]) {
-        return some_text(alloc, "a `:` is missing here, and the value behind it");
+        return some_text(alloc, "a `:` is missing here, and the value after it");
     }
     let in_expression = able.contains(&"pm_new") && !able.contains(&"for");
     match left_out(alloc, near, in_expression)? {

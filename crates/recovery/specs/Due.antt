@@ -8,6 +8,7 @@ use Rattle.pool_layout.specs.declared.limits.Sizes.{Sizes}
 use Rattle.clobber_log.specs.Logs.{attempt_in}
 use Rattle.clobber_log.specs.Reset.{reset_events}
 use Rattle.clobber_log.specs.Restore.{restore_events}
+use Rattle.pm_machine.specs.declared.records.Policy.{Policy}
 use Rattle.pm_machine.specs.declared.image.Image.{Image}
 use Rattle.pm_machine.specs.Machine.{start}
 use Rattle.tx_run.specs.Due.{due_run}
@@ -27,7 +28,7 @@ due_back s zero c = []
 due_back s (suc n) c = restore_events s (view c) ++ due_reset s (play c (restore_events s (view c)))
 
 -- the sealed call runs again
-abbrev pub due_redo : Image → (tx : ℕ) → List ℤ → ℕ → Cache → List CacheEvent
-due_redo image tx args n c =
-    due_back image.parts.sizes n c ++ due_run image (start image tx args)
+abbrev pub due_redo : Policy → Image → (tx : ℕ) → List ℤ → ℕ → Cache → List CacheEvent
+due_redo p image tx args n c =
+    due_back image.parts.sizes n c ++ due_run p image (start image tx args)
     (play c (due_back image.parts.sizes n c))

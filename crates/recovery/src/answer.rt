@@ -15,11 +15,12 @@ use tx_run::Settled;
 pub enum RecoverAnswer {
     /// No call was cut after its seal.
     Clean,
-    /// The sealed call ran again and is retired; `logged` is the number of LOG instructions of its
-    /// run.
+    /// The sealed call ran again and is retired; `logged` is the number of records that it took.
     Redone { value: i64, logged: u64 },
     /// The sealed call trapped, and the mark is durable.
     Trap(TrapKind),
+    /// The sealed call trapped, and is rolled back.
+    Aborted(TrapKind),
     /// The pool has a mark; there was no event.
     Unusable(TrapKind),
     /// Records are valid and the attempt isn't below 2^62; there was no event.
@@ -38,6 +39,7 @@ impl RecoverAnswer {
         match settled {
             Settled::Done { value, logged } => RecoverAnswer::Redone { value, logged },
             Settled::Trap(kind) => RecoverAnswer::Trap(kind),
+            Settled::Aborted(kind) => RecoverAnswer::Aborted(kind),
             Settled::Off => RecoverAnswer::Off(Phase::Sealed),
             Settled::Failed => RecoverAnswer::Failed,
             Settled::NoMemory => RecoverAnswer::NoMemory,

@@ -8,13 +8,14 @@ ghost use Rattle.clobber_log.specs.Logs.{count_in};
 ghost use Rattle.args_log.specs.Pending.{HoldsArguments};
 ghost use Rattle.recovery.specs.Found.{recorded};
 ghost use Rattle.recovery.specs.Due.{due_clean, due_back};
-ghost use Rattle.recovery.specs.Recovered.{redo_run, Cleaned, Redid, IsRecovered};
+ghost use Rattle.recovery.specs.Recovered.{redo_steps, Cleaned, Redid, IsRecovered};
+ghost use Rattle.tx_run.specs.Due.{most_steps};
 
 use crate::answer::RecoverAnswer;
 use crate::looking::{Found, look};
 use clobber_log::{reset, restore};
 use nvm_base::Steps;
-use pm_machine::{Image, Spare};
+use pm_machine::{Image, Policy, Spare};
 use pmem::{LogAnswer, Phase, PmemWork};
 use pool_layout::{ARGUMENTS, Sizes};
 use std::alloc::Global;
@@ -81,6 +82,7 @@ fn redo<P: PmemWork, L: Ledger>(
     alloc: Global,
     spare: &mut Spare,
     image: &Image,
+    policy: Policy,
     tx: u64,
     args: &[i64],
     count: u64,
@@ -92,18 +94,18 @@ fn redo<P: PmemWork, L: Ledger>(
     requires count { count ≡ count_in image.now.parts.sizes (view (P.device dev.old).cache) }
     requires first { 1 ≤ tx }
     requires last { tx ≤ length image.now.parts.txs }
-    ensures redid { Redid result image.now tx args.now count (P.device dev.old) (P.device dev.new)
-        steps.old steps.new }
+    ensures redid { Redid result policy image.now tx args.now count (P.device dev.old)
+        (P.device dev.new) steps.old steps.new }
     ensures bound { steps.new ≤
-        steps.old + count + (redo_run image.now tx args.now count (P.device dev.old)).steps }
-    ensures most { steps.new ≤ steps.old + count + image.now.parts.most }
+        steps.old + redo_steps policy image.now tx args.now count (P.device dev.old) }
+    ensures most { steps.new ≤ steps.old + count + most_steps policy image.now }
     ensures lines { (P.device dev.new).lines ≡ (P.device dev.old).lines }
 {
     let Some(machine) = spare.start(alloc, image, tx, args) else {
         return RecoverAnswer::NoMemory;
     };
     match put_back(image.sizes(), dev, count, steps) {
-        LogAnswer::Done => RecoverAnswer::redone(settle(image, machine, dev, steps)),
+        LogAnswer::Done => RecoverAnswer::redone(settle(image, policy, machine, dev, steps)),
         LogAnswer::Off => RecoverAnswer::Off(Phase::Sealed),
         LogAnswer::Failed => RecoverAnswer::Failed,
         LogAnswer::NoMemory => RecoverAnswer::NoMemory,
@@ -114,23 +116,25 @@ fn redo<P: PmemWork, L: Ledger>(
 ///
 /// A pool with a mark stays as it is. Otherwise, if records are valid, their old values are
 /// restored if a call was sealed, and the next attempt begins; and a sealed call runs again from
-/// its recorded arguments and is settled. A sealed record that names no transaction of the image,
+/// its recorded arguments and is settled, by the policy of its transaction. A sealed record that names no transaction of the image,
 /// which no pool of the image holds, is answered with `Numbers`, without an event. On a device that
 /// is off the answer is `Off(Unsealed)`, and nothing has changed. If no call was sealed it takes no
 /// step, else at most one for each valid record and those of the run.
 pub fn recover<P: PmemWork, L: Ledger>(
     alloc: Global,
     image: &Image,
+    policy: Policy,
     dev: &mut P,
     steps: &mut Steps<L>,
 ) -> RecoverAnswer
     requires lines { (P.device dev.old).lines ≡ pool_lines image.now.parts.sizes }
-    ensures recovered { IsRecovered result image.now (P.device dev.old) (P.device dev.new)
+    ensures recovered { IsRecovered result policy image.now (P.device dev.old) (P.device dev.new)
         steps.old steps.new }
-    ensures most { steps.new ≤ steps.old + image.now.parts.sizes.records + image.now.parts.most }
+    ensures most { steps.new
+        ≤ steps.old + image.now.parts.sizes.records + most_steps policy image.now }
     ensures lines { (P.device dev.new).lines ≡ (P.device dev.old).lines }
 {
-    recover_with(alloc, &mut Spare::new(), image, dev, steps)
+    recover_with(alloc, &mut Spare::new(), image, policy, dev, steps)
 }
 
 /// Recovers the pool as `recover` does, with the machine that is kept.
@@ -138,13 +142,15 @@ pub fn recover_with<P: PmemWork, L: Ledger>(
     alloc: Global,
     spare: &mut Spare,
     image: &Image,
+    policy: Policy,
     dev: &mut P,
     steps: &mut Steps<L>,
 ) -> RecoverAnswer
     requires lines { (P.device dev.old).lines ≡ pool_lines image.now.parts.sizes }
-    ensures recovered { IsRecovered result image.now (P.device dev.old) (P.device dev.new)
+    ensures recovered { IsRecovered result policy image.now (P.device dev.old) (P.device dev.new)
         steps.old steps.new }
-    ensures most { steps.new ≤ steps.old + image.now.parts.sizes.records + image.now.parts.most }
+    ensures most { steps.new
+        ≤ steps.old + image.now.parts.sizes.records + most_steps policy image.now }
     ensures lines { (P.device dev.new).lines ≡ (P.device dev.old).lines }
 {
     match look(image, dev) {
@@ -154,7 +160,7 @@ pub fn recover_with<P: PmemWork, L: Ledger>(
         Found::Unsealed { count } => clean(image.sizes(), dev, count),
         Found::Sealed { tx, args, count } => {
             let args = given(image, tx, &args);
-            redo(alloc, spare, image, tx, args, count, dev, steps)
+            redo(alloc, spare, image, policy, tx, args, count, dev, steps)
         }
     }
 }

@@ -3,3 +3,5 @@ pub mod Inputs
 pub mod Join
 pub mod Sounds
 pub mod Runs
+pub mod Shapes
+pub mod Recorded

@@ -1,11 +1,14 @@
 -- The effects and the end of a machine's run, as the crash law sees them.
-use Rattle.std.specs.Prelude.{ℕ, zero, suc, ◌+◌, List, [], ◌∷◌, None}
+use Rattle.std.specs.Prelude.{ℕ, zero, suc, ◌+◌, ◌⊎◌, List, [], ◌∷◌, None, ℤ}
+use Rattle.pool_map.specs.declared.trap.TrapKind.{TrapKind}
 use Rattle.pool_map.specs.Trap.{trap_number}
 use Rattle.pm_machine.specs.declared.effect.Effect.{Effect}
 use Rattle.pm_machine.specs.declared.effect.Effect.TheVariants.{Loads, Scans, Stores, Logs, Flushes}
 use Rattle.pm_machine.specs.declared.effect.Effect.TheVariants.{Fences, Quiet}
 use Rattle.pm_machine.specs.declared.effect.End.{End}
 use Rattle.pm_machine.specs.declared.effect.End.TheVariants.{Halted, Trapped}
+use Rattle.pm_machine.specs.declared.records.Policy.{Policy}
+use Rattle.pm_machine.specs.declared.records.Policy.TheVariants.{EndPool, RollBack}
 use Rattle.pm_machine.specs.Inputs.{IsInput, IsOverwritten}
 use Rattle.crash_law.specs.Due as due
 use Rattle.crash_law.specs.Effects as past
@@ -35,13 +38,21 @@ seen_all (e ∷ es) = seen_before e (seen_all es)
 abbrev pub trace_in : List Effect → List due.Entry
 trace_in es = past.trace_of None (seen_all es)
 
-abbrev pub result_of : End → due.Result
-result_of (Halted v) = due.Halted v
-result_of (Trapped k) = due.Trapped (trap_number k)
+-- what a trap makes of a call: the pool is lost, or the call is undone, with this last value
+abbrev pub trap_result : Policy → (last : ℤ) → TrapKind → due.Result
+trap_result EndPool last k = due.Trapped (trap_number k)
+trap_result RollBack last k = due.Undone last
 
--- the inputs of a run, and the words that it overwrites, as the machine has them
-abbrev pub E : List Effect → ℕ → Type 0
-E es = IsInput es
+abbrev pub result_of : Policy → (last : ℤ) → End → due.Result
+result_of p last (Halted v) = due.Halted v
+result_of p last (Trapped k) = trap_result p last k
 
+-- the words whose first values a run must be able to restore: its inputs, and where it may be
+-- rolled back each word that it overwrites
+abbrev pub E : Policy → List Effect → ℕ → Type 0
+E EndPool es w = IsInput es w
+E RollBack es w = IsInput es w ⊎ IsOverwritten es w
+
+-- the words that a run overwrites
 abbrev pub W : List Effect → ℕ → Type 0
 W es = IsOverwritten es

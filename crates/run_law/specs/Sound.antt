@@ -8,13 +8,13 @@ use Rattle.pm_machine.specs.declared.effect.Effect.TheVariants.{Loads, Scans, St
 use Rattle.pm_machine.specs.declared.effect.Effect.TheVariants.{Fences, Quiet}
 use Rattle.pm_machine.specs.declared.effect.End.{End}
 use Rattle.pm_machine.specs.declared.effect.End.TheVariants.{Halted, Trapped}
-use Rattle.pm_machine.specs.Inputs.{IsInput, IsOverwritten}
-use Rattle.run_law.specs.Seen.{seen_all}
+use Rattle.pm_machine.specs.declared.records.Policy.{Policy}
+use Rattle.run_law.specs.Seen.{seen_all, E, W}
 
--- for each word that is loaded before any store to it and stored later, a LOG of the word comes
+-- for each word that is stored and whose first value is to be restored, a LOG of the word comes
 -- before its first store
-abbrev pub IsCoveredRun : List Effect → Type 0
-IsCoveredRun es = (w : ℕ) → IsInput es w → IsOverwritten es w → IsLoggedFirst (seen_all es) w
+abbrev pub IsCoveredRun : Policy → List Effect → Type 0
+IsCoveredRun p es = (w : ℕ) → E p es w → W es w → IsLoggedFirst (seen_all es) w
 
 -- each LOG is followed by its STORE
 abbrev pub IsPairedRun : List Effect → Type 0
@@ -62,7 +62,7 @@ IsTidyEnd ls (Halted v) es = IsTidy ls es
 IsTidyEnd ls (Trapped k) es = IsStill es
 
 -- The parts of Sound that concern one run.
-pub record IsSoundRun (end : End) (es : List Effect) : Type 0 where
-  pub covered : IsCoveredRun es
+pub record IsSoundRun (p : Policy) (end : End) (es : List Effect) : Type 0 where
+  pub covered : IsCoveredRun p es
   pub paired : IsPairedRun es
   pub tidy : IsTidyEnd [] end es

@@ -8,9 +8,6 @@ use Rattle.pool_layout.specs.declared.places.TheConstants.{DONE, ATTEMPT}
 use Rattle.pm_machine.specs.Runs.{heap_in}
 use Rattle.tx_run.specs.Standing.{is_number}
 use Rattle.tx_run.specs.declared.answer.CallAnswer.{CallAnswer}
-use Rattle.abort_mode.specs.declared.answer.AbortAnswer.{AbortAnswer}
-use Rattle.abort_mode.specs.declared.answer.AbortAnswer.TheVariants as aborted
-use Rattle.abort_law.specs.Steps.{IsPlayedOut}
 use Rattle.cnvm_session.specs.declared.mode.Mode.{Mode}
 use Rattle.cnvm_session.specs.declared.mode.Mode.TheVariants as mode
 use Rattle.cnvm_session.specs.declared.answer.Answer.{Answer}
@@ -18,7 +15,7 @@ use Rattle.cnvm_session.specs.declared.program.Program.{Program}
 use Rattle.cnvm_session.specs.Commands as commanded
 use Rattle.cnvm_session.specs.Commands.{call_number, tx_parameters}
 use Rattle.cnvm_session.specs.Marks.{rolls_back_of}
-use Rattle.cnvm_session.specs.Outcomes.{answer_of_call, answer_of_marked_call}
+use Rattle.cnvm_session.specs.Outcomes.{answer_of_call}
 use Rattle.cnvm_session.specs.Outcomes as outcomes
 use Rattle.cnvm_session.specs.Pool.{sizes_of}
 use Rattle.session_law.specs.Words.{AreWords}
@@ -28,16 +25,6 @@ use Rattle.session_law.specs.Holds.{IsResting, HoldsAs}
 use Rattle.session_law.specs.Law.{RanToEnd, TakesBy, CallStepsLaw}
 use Rattle.session_law.proofs.Reading.{numbers_small, stands_ready, stands_numbers}
 use Rattle.session_law.proofs.Calls.{call_counts}
-use Rattle.session_law.proofs.MarkedCalls.{marked_call_counts}
-
-played_out : (r : AbortAnswer) → RanToEnd (answer_of_marked_call r) → IsPlayedOut r
-played_out (aborted.Done v l) run = tt
-played_out (aborted.Aborted kind) run = tt
-played_out (aborted.Off p) run = run
-played_out aborted.Failed run = run
-played_out (aborted.Unusable kind) run = run
-played_out aborted.Numbers run = run
-played_out aborted.NoMemory run = run
 
 module _ (program : Program) (super : Words) (agrees : Agrees program)
     (d b : Device) (s : SourceState) (resting : IsResting program super d s)
@@ -54,13 +41,13 @@ module _ (program : Program) (super : Words) (agrees : Agrees program)
   by_mark : tx_parameters program.image tx ≡ Some (length args) → (marked : Bool) →
       rolls_back_of program tx ≡ marked →
       outcomes.RunsBy marked program.image tx args d a n b k k1 → Taken marked
-  by_mark takes false mark is =
+  by_mark takes marked mark is =
       go (is_number (view d.cache DONE) && is_number (view d.cache ATTEMPT)) refl
     where
-      go : (x : Bool) → Numbers x → Taken false
+      go : (x : Bool) → Numbers x → Taken marked
       go true numbers =
           let good = resting.before.good in
-          call_counts program super agrees d s resting tx args takes words
+          call_counts marked program super agrees d s resting tx args takes words
           (numbers_small (view d.cache) s.done good.attempt good.done good.attempt_is numbers) b
           mark is.tx_answer k k1 (subst RanToEnd is.answer run)
           (is.called.ready resting.on (stands_ready (view d.cache) good.mark numbers))
@@ -68,21 +55,6 @@ module _ (program : Program) (super : Words) (agrees : Agrees program)
           let same = (is.called.numbers resting.on
           (stands_numbers (view d.cache) resting.before.good.mark numbers)).0 in
           absurd (subst (λ (r : CallAnswer). RanToEnd (answer_of_call r)) same
-          (subst RanToEnd is.answer run))
-  by_mark takes true mark is =
-      go (is_number (view d.cache DONE) && is_number (view d.cache ATTEMPT)) refl
-    where
-      go : (x : Bool) → Numbers x → Taken true
-      go true numbers =
-          let good = resting.before.good in
-          marked_call_counts program super agrees d s resting tx args takes words
-          (numbers_small (view d.cache) s.done good.attempt good.done good.attempt_is numbers) b
-          mark is.tx_answer k k1 (played_out is.tx_answer (subst RanToEnd is.answer run))
-          (is.called.ready resting.on (stands_ready (view d.cache) good.mark numbers))
-      go false numbers =
-          let same = (is.called.numbers resting.on
-          (stands_numbers (view d.cache) resting.before.good.mark numbers)).0 in
-          absurd (subst (λ (r : AbortAnswer). RanToEnd (answer_of_marked_call r)) same
           (subst RanToEnd is.answer run))
 
   by_count : (count : ℕ) (same : Bool) → (count == length args) ≡ same

@@ -26,8 +26,7 @@ use Rattle.cnvm_session.specs.declared.program.Program.{Program}
 use Rattle.pm_machine.specs.HeapPool.{heap_of}
 use Rattle.cnvm_session.specs.Commands as commanded
 use Rattle.cnvm_session.specs.Outcomes as outcomes
-use Rattle.cnvm_session.specs.Marks.{rolls_back_of}
-use Rattle.abort_law.specs.Cuts.{IsMarkedCut}
+use Rattle.cnvm_session.specs.Marks.{rolls_back_of, policy_of}
 use Rattle.cnvm_session.specs.Commands.{call_number, tx_parameters}
 use Rattle.cnvm_session.specs.Pool.{sizes_of}
 use Rattle.session_law.specs.Source.{source_pool}
@@ -42,7 +41,6 @@ use Rattle.session_law.specs.Law.{SessionLaw}
 use Rattle.session_law.proofs.Heaps.{pool_same, shown_same, pool_fits}
 use Rattle.session_law.proofs.Resting.{resting_owes}
 use Rattle.session_law.proofs.Calls.{call_runs}
-use Rattle.session_law.proofs.MarkedCalls.{marked_call_runs}
 use Rattle.session_law.proofs.Powers.{power_answers}
 
 module _ (program : Program) (super : Words) where
@@ -50,7 +48,7 @@ module _ (program : Program) (super : Words) where
   same_owed : (owed : Pending) (d e : Device) (s : SourceState) → e.cache ≡ d.cache
       → (marked : Bool) → OwesBy marked program super owed d s
       → OwesBy marked program super owed e s
-  same_owed owed d e s cache false r = record {
+  same_owed owed d e s cache marked r = record {
     heap = r.heap;
     holds = r.holds;
     takes = r.takes;
@@ -59,19 +57,8 @@ module _ (program : Program) (super : Words) where
     effects = r.effects;
     ran = r.ran;
     left = subst (Images (IsCut (pool_with program.image super)
-        (call_of s.done owed.tx owed.args) (E r.effects) (W r.effects) r.heap
-        (heap_end r.heap r.effects) s.last (result_of r.end))) (sym cache) r.left;
-  }
-  same_owed owed d e s cache true r = record {
-    heap = r.heap;
-    holds = r.holds;
-    takes = r.takes;
-    words = r.words;
-    end = r.end;
-    effects = r.effects;
-    ran = r.ran;
-    left = subst (Images (IsMarkedCut (pool_with program.image super)
-        (call_of s.done owed.tx owed.args) r.heap (heap_end r.heap r.effects) s.last r.end))
+        (call_of s.done owed.tx owed.args) (E (policy_of marked) r.effects) (W r.effects) r.heap
+        (heap_end r.heap r.effects) s.last (result_of (policy_of marked) s.last r.end)))
         (sym cache) r.left;
   }
 
@@ -140,19 +127,11 @@ module _ (program : Program) (super : Words) where
         outcomes.RunsBy marked program.image tx args d a n b k k1 →
         (t : SourceState) × RunsBy marked program s (view d.cache) tx args a t
         × Holds program super n b t
-    by_mark tx exact false mark h =
-        let done = call_runs program super agrees d s resting tx args exact words mark h.tx_answer b
-        k k1 ready h.called in (
-          done.0,
-          subst (λ (x : Answer). RunsBy false program s (view d.cache) tx args x done.0)
-              (sym h.answer) done.1,
-          subst (λ (x : Mode). Holds program super x b done.0) (sym h.mode) done.2,
-        )
-    by_mark tx exact true mark h =
-        let done = marked_call_runs program super agrees d s resting tx args exact words mark
+    by_mark tx exact marked mark h =
+        let done = call_runs marked program super agrees d s resting tx args exact words mark
         h.tx_answer b k k1 ready h.called in (
           done.0,
-          subst (λ (x : Answer). RunsBy true program s (view d.cache) tx args x done.0)
+          subst (λ (x : Answer). RunsBy marked program s (view d.cache) tx args x done.0)
               (sym h.answer) done.1,
           subst (λ (x : Mode). Holds program super x b done.0) (sym h.mode) done.2,
         )

@@ -16,6 +16,7 @@ use Rattle.pool_layout.specs.declared.places.TheConstants.{DONE, ATTEMPT, MARK}
 use Rattle.pool_layout.specs.Image.{is_sealed}
 use Rattle.pool_map.specs.declared.trap.TrapKind.{TrapKind}
 use Rattle.c_types.specs.Shapes.{shapes_of}
+use Rattle.pm_machine.specs.declared.records.Policy.{Policy}
 use Rattle.pm_machine.specs.declared.image.Image.{Image}
 use Rattle.tx_run.specs.Standing.{standing_of, is_number, trap_of_mark}
 use Rattle.tx_run.specs.declared.standing.Standing.TheVariants as stand
@@ -27,9 +28,6 @@ use Rattle.recovery.specs.Recovered.{Cleaned, Redid, IsRecovered, numbers_out, t
 use Rattle.recovery.specs.Found.{names_tx}
 use Rattle.recovery.specs.declared.answer.RecoverAnswer.{RecoverAnswer}
 use Rattle.recovery.specs.declared.answer.RecoverAnswer.TheVariants as recovered
-use Rattle.abort_mode.specs.Answers.{AbortCalled, AbortRedid, IsAbortCalled, IsAbortRedone}
-use Rattle.abort_mode.specs.declared.answer.AbortAnswer.{AbortAnswer}
-use Rattle.abort_mode.specs.declared.answer.AbortAnswer.TheVariants as marked
 use Rattle.cnvm_script.specs.declared.command.Command.{Command}
 use Rattle.cnvm_script.specs.declared.command.Command.TheVariants as command
 use Rattle.cnvm_session.specs.declared.mode.Mode.{Mode}
@@ -37,11 +35,10 @@ use Rattle.cnvm_session.specs.declared.mode.Mode.TheVariants as mode
 use Rattle.cnvm_session.specs.declared.answer.Answer.{Answer}
 use Rattle.cnvm_session.specs.declared.answer.Answer.TheVariants as answer
 use Rattle.cnvm_session.specs.declared.program.Program.{Program}
-use Rattle.cnvm_session.specs.Marks.{rolls_back_of, owes_marked}
+use Rattle.cnvm_session.specs.Marks.{rolls_back_of, policy_of, owes_marked}
 use Rattle.cnvm_session.specs.Commands as commanded
 use Rattle.cnvm_session.specs.Commands.{fallen, call_number, tx_parameters}
-use Rattle.cnvm_session.specs.Outcomes.{answer_of_call, answer_of_recovery, answer_of_marked_call}
-use Rattle.cnvm_session.specs.Outcomes.{answer_of_marked_recovery, RunsBy, RecoversBy}
+use Rattle.cnvm_session.specs.Outcomes.{answer_of_call, answer_of_recovery, RunsBy, RecoversBy}
 use Rattle.session_law.specs.State.{Standing, Ready, Down, Unusable, SourceState}
 use Rattle.session_law.specs.Holds.{HoldsAs}
 use Rattle.session_law.specs.Ends.{IsSafe, IsInterrupted, ArmsNothing, UninterruptedLaw}
@@ -113,11 +110,12 @@ as_it_was : (a c : Answer) (d b : Device) → IsSafe d → a ≡ c → b ≡ d �
 as_it_was a c d b safe is same not =
     (λ broken. not (subst IsInterrupted is broken), subst IsSafe (sym same) safe)
 
-module _ (image : Image) (tx : ℕ) (args : List ℤ) (d b : Device) (k k1 : ℕ)
+module _ (p : Policy) (image : Image) (tx : ℕ) (args : List ℤ) (d b : Device) (k k1 : ℕ)
     (takes : TakesAll d) where
-  called_well : (r : CallAnswer) → Called r image tx args d b k k1 → EndsWell (answer_of_call r) b
+  called_well : (r : CallAnswer) → Called r p image tx args d b k k1 → EndsWell (answer_of_call r) b
   called_well (called.Done v l) h = (no, all_safe _ d b takes h.0.played)
-  called_well (called.Trap kind) h = (no, all_safe _ d b takes h.played)
+  called_well (called.Trap kind) h = (no, all_safe _ d b takes h.1.played)
+  called_well (called.Aborted kind) h = (no, all_safe _ d b takes h.1.played)
   called_well (called.Off at) h = absurd (off_never _ d b takes h.0)
   called_well called.Failed h = absurd (failed_never _ d b takes h)
   called_well called.NoMemory h = (no, part_safe _ d b takes h)
@@ -125,7 +123,7 @@ module _ (image : Image) (tx : ℕ) (args : List ℤ) (d b : Device) (k k1 : ℕ
   called_well called.Numbers h = absurd h
 
   -- by what the pool says of calls
-  tx_well : (r : CallAnswer) → IsTxCalled r image tx args d b k k1
+  tx_well : (r : CallAnswer) → IsTxCalled r p image tx args d b k k1
       → EndsWell (answer_of_call r) b
   tx_well r is = by_standing (standing_of (view d.cache)) refl
     where
@@ -142,42 +140,14 @@ module _ (image : Image) (tx : ℕ) (args : List ℤ) (d b : Device) (k k1 : ℕ
           (ap answer_of_call h.0) h.1 no
       by_standing stand.Off same = absurd (never_off (view d.cache) same)
 
-  marked_well : (r : AbortAnswer) → AbortCalled r image tx args d b k k1
-      → EndsWell (answer_of_marked_call r) b
-  marked_well (marked.Done v l) h = (no, all_safe _ d b takes h.0.played)
-  marked_well (marked.Aborted kind) h = (no, all_safe _ d b takes h.played)
-  marked_well (marked.Off at) h = absurd (off_never _ d b takes h.0)
-  marked_well marked.Failed h = absurd (failed_never _ d b takes h)
-  marked_well marked.NoMemory h = (no, part_safe _ d b takes h)
-  marked_well (marked.Unusable kind) h = absurd h
-  marked_well marked.Numbers h = absurd h
+runs_well : (marked : Bool) (image : Image) (tx : ℕ) (args : List ℤ) (d b : Device) (k k1 : ℕ)
+    → TakesAll d → (a : Answer) (n : Mode) → RunsBy marked image tx args d a n b k k1
+    → EndsWell a b
+runs_well marked image tx args d b k k1 takes a n runs =
+    subst (λ (x : Answer). EndsWell x b) (sym runs.answer)
+    (tx_well (policy_of marked) image tx args d b k k1 takes runs.tx_answer runs.called)
 
-  abort_well : (r : AbortAnswer) → IsAbortCalled r image tx args d b k k1
-      → EndsWell (answer_of_marked_call r) b
-  abort_well r is = by_standing (standing_of (view d.cache)) refl
-    where
-      by_standing : (st : stands.Standing) → standing_of (view d.cache) ≡ st
-          → EndsWell (answer_of_marked_call r) b
-      by_standing stand.Ready same = marked_well r (is.ready takes.0 same)
-      by_standing (stand.Unusable kind) same =
-          let h = is.unusable kind takes.0 same in
-          as_it_was (answer_of_marked_call r) (answer.RefusedUnusable kind) d b takes.1
-          (ap answer_of_marked_call h.0) h.1 no
-      by_standing stand.Numbers same =
-          let h = is.numbers takes.0 same in
-          as_it_was (answer_of_marked_call r) answer.RefusedNumbers d b takes.1
-          (ap answer_of_marked_call h.0) h.1 no
-      by_standing stand.Off same = absurd (never_off (view d.cache) same)
-
-  runs_well : (is_marked : Bool) (a : Answer) (n : Mode)
-      → RunsBy is_marked image tx args d a n b k k1 → EndsWell a b
-  runs_well false a n runs =
-      subst (λ (x : Answer). EndsWell x b) (sym runs.answer) (tx_well runs.tx_answer runs.called)
-  runs_well true a n runs =
-      subst (λ (x : Answer). EndsWell x b) (sym runs.answer)
-      (abort_well runs.tx_answer runs.called)
-
-module _ (image : Image) (d b : Device) (k k1 : ℕ) (takes : TakesAll d) where
+module _ (p : Policy) (image : Image) (d b : Device) (k k1 : ℕ) (takes : TakesAll d) where
   cleaned_well : (es : List CacheEvent) (r : RecoverAnswer) → Cleaned r d es b
       → EndsWell (answer_of_recovery r) b
   cleaned_well es recovered.Clean h = (no, all_safe es d b takes h)
@@ -188,13 +158,15 @@ module _ (image : Image) (d b : Device) (k k1 : ℕ) (takes : TakesAll d) where
   cleaned_well es recovered.NoMemory h = (no, part_safe es d b takes h)
   cleaned_well es (recovered.Redone v l) h = absurd h
   cleaned_well es (recovered.Trap kind) h = absurd h
+  cleaned_well es (recovered.Aborted kind) h = absurd h
   cleaned_well es (recovered.Unusable kind) h = absurd h
   cleaned_well es recovered.Numbers h = absurd h
 
   redid_well : (tx : ℕ) (args : List ℤ) (n : ℕ) (r : RecoverAnswer)
-      → Redid r image tx args n d b k k1 → EndsWell (answer_of_recovery r) b
+      → Redid r p image tx args n d b k k1 → EndsWell (answer_of_recovery r) b
   redid_well tx args n (recovered.Redone v l) h = (no, all_safe _ d b takes h.0.played)
-  redid_well tx args n (recovered.Trap kind) h = (no, all_safe _ d b takes h.played)
+  redid_well tx args n (recovered.Trap kind) h = (no, all_safe _ d b takes h.1.played)
+  redid_well tx args n (recovered.Aborted kind) h = (no, all_safe _ d b takes h.1.played)
   redid_well tx args n (recovered.Off phase.Sealed) h = absurd (off_never _ d b takes h)
   redid_well tx args n (recovered.Off phase.Unsealed) h = absurd h
   redid_well tx args n (recovered.Off phase.Sealing) h = absurd h
@@ -206,24 +178,10 @@ module _ (image : Image) (d b : Device) (k k1 : ℕ) (takes : TakesAll d) where
   redid_well tx args n (recovered.Unusable kind) h = absurd h
   redid_well tx args n recovered.Numbers h = absurd h
 
-  marked_redid_well : (tx : ℕ) (args : List ℤ) (n : ℕ) (r : AbortAnswer)
-      → AbortRedid r image tx args n d b k k1 → EndsWell (answer_of_marked_recovery r) b
-  marked_redid_well tx args n (marked.Done v l) h = (no, all_safe _ d b takes h.0.played)
-  marked_redid_well tx args n (marked.Aborted kind) h = (no, all_safe _ d b takes h.played)
-  marked_redid_well tx args n (marked.Off phase.Sealed) h = absurd (off_never _ d b takes h)
-  marked_redid_well tx args n (marked.Off phase.Unsealed) h = absurd h
-  marked_redid_well tx args n (marked.Off phase.Sealing) h = absurd h
-  marked_redid_well tx args n marked.Failed h = absurd (failed_never _ d b takes h)
-  marked_redid_well tx args n marked.NoMemory (inl same) =
-      (no, subst IsSafe (sym same.0) takes.1)
-  marked_redid_well tx args n marked.NoMemory (inr part) = (no, part_safe _ d b takes part)
-  marked_redid_well tx args n (marked.Unusable kind) h = absurd h
-  marked_redid_well tx args n marked.Numbers h = absurd h
-
   abbrev mark : ℤ
   mark = view d.cache MARK
 
-  module _ (r : RecoverAnswer) (is : IsRecovered r image d b k k1) where
+  module _ (r : RecoverAnswer) (is : IsRecovered r p image d b k k1) where
     abbrev Well : Type 0
     Well = EndsWell (answer_of_recovery r) b
 
@@ -261,47 +219,11 @@ module _ (image : Image) (d b : Device) (k k1 : ℕ) (takes : TakesAll d) where
     recovered_well : Well
     recovered_well = by_mark (int_eq mark (pos 0)) refl
 
-  module _ (r : AbortAnswer) (is : IsAbortRedone r image d b k k1) where
-    abbrev MarkedWell : Type 0
-    MarkedWell = EndsWell (answer_of_marked_recovery r) b
-
-    marked_numbers_well : (r ≡ marked.Numbers) × (b ≡ d) × (k1 ≡ k) → MarkedWell
-    marked_numbers_well h =
-        as_it_was (answer_of_marked_recovery r) answer.RefusedNumbers d b takes.1
-        (ap answer_of_marked_recovery h.0) h.1 no
-
-    marked_by_name : (x : Bool) → names_tx image (tx_in d) ≡ x → mark ≡ pos 0
-        → numbers_out image d ≡ false → MarkedWell
-    marked_by_name true names zero few =
-        marked_redid_well _ _ _ r (is.redid takes.0 zero few names)
-    marked_by_name false names zero few =
-        marked_numbers_well (is.unnamed takes.0 zero few names)
-
-    marked_by_numbers : (x : Bool) → numbers_out image d ≡ x → mark ≡ pos 0 → MarkedWell
-    marked_by_numbers true out zero = marked_numbers_well (is.numbers takes.0 zero out)
-    marked_by_numbers false few zero =
-        marked_by_name (names_tx image (tx_in d)) refl zero few
-
-    marked_by_mark : (x : Bool) → int_eq mark (pos 0) ≡ x → MarkedWell
-    marked_by_mark true same =
-        marked_by_numbers (numbers_out image d) refl ((Decides-int_eq mark (pos 0)).0 same)
-    marked_by_mark false other =
-        let marks : mark ≢ pos 0 = λ zero.
-        let clash : true ≡ false = sym ((Decides-int_eq mark (pos 0)).1 zero) ∙ other in
-        absurd cc in
-        let h = is.unusable takes.0 marks in
-        as_it_was (answer_of_marked_recovery r) (answer.RefusedUnusable _) d b takes.1
-        (ap answer_of_marked_recovery h.0) h.1 no
-
-    redone_well : MarkedWell
-    redone_well = marked_by_mark (int_eq mark (pos 0)) refl
-
-  recovers_well : (is_marked : Bool) (a : Answer) (n : Mode)
-      → RecoversBy is_marked image d a n b k k1 → EndsWell a b
-  recovers_well false a n h =
-      subst (λ (x : Answer). EndsWell x b) (sym h.answer) (recovered_well h.tx_answer h.recovered)
-  recovers_well true a n h =
-      subst (λ (x : Answer). EndsWell x b) (sym h.answer) (redone_well h.tx_answer h.redone)
+recovers_well : (image : Image) (d b : Device) (k k1 : ℕ) → TakesAll d → (marked : Bool)
+    (a : Answer) (n : Mode) → RecoversBy marked image d a n b k k1 → EndsWell a b
+recovers_well image d b k k1 takes marked a n h =
+    subst (λ (x : Answer). EndsWell x b) (sym h.answer)
+    (recovered_well (policy_of marked) image d b k k1 takes h.tx_answer h.recovered)
 
 -- the answers of a recovery that isn't interrupted
 recovery_ends : (r : RecoverAnswer) → (IsInterrupted (answer_of_recovery r) → ⊥)
@@ -309,30 +231,19 @@ recovery_ends : (r : RecoverAnswer) → (IsInterrupted (answer_of_recovery r) �
 recovery_ends recovered.Clean not = tt
 recovery_ends (recovered.Redone v l) not = tt
 recovery_ends (recovered.Trap kind) not = tt
+recovery_ends (recovered.Aborted kind) not = tt
 recovery_ends (recovered.Off at) not = absurd (not tt)
 recovery_ends recovered.Failed not = absurd (not tt)
 recovery_ends recovered.NoMemory not = tt
 recovery_ends (recovered.Unusable kind) not = tt
 recovery_ends recovered.Numbers not = tt
 
-marked_recovery_ends : (r : AbortAnswer) → (IsInterrupted (answer_of_marked_recovery r) → ⊥)
-    → IsRecoveryEnd (answer_of_marked_recovery r)
-marked_recovery_ends (marked.Done v l) not = tt
-marked_recovery_ends (marked.Aborted kind) not = tt
-marked_recovery_ends (marked.Off at) not = absurd (not tt)
-marked_recovery_ends marked.Failed not = absurd (not tt)
-marked_recovery_ends marked.NoMemory not = tt
-marked_recovery_ends (marked.Unusable kind) not = tt
-marked_recovery_ends marked.Numbers not = tt
-
-recovers_end : (image : Image) (d b : Device) (k k1 : ℕ) → TakesAll d → (is_marked : Bool)
-    (a : Answer) (n : Mode) → RecoversBy is_marked image d a n b k k1 → IsRecoveryEnd a
-recovers_end image d b k k1 takes false a n h =
+recovers_end : (image : Image) (d b : Device) (k k1 : ℕ) → TakesAll d → (marked : Bool)
+    (a : Answer) (n : Mode) → RecoversBy marked image d a n b k k1 → IsRecoveryEnd a
+recovers_end image d b k k1 takes marked a n h =
     subst IsRecoveryEnd (sym h.answer)
-    (recovery_ends h.tx_answer (recovered_well image d b k k1 takes h.tx_answer h.recovered).0)
-recovers_end image d b k k1 takes true a n h =
-    subst IsRecoveryEnd (sym h.answer)
-    (marked_recovery_ends h.tx_answer (redone_well image d b k k1 takes h.tx_answer h.redone).0)
+    (recovery_ends h.tx_answer
+    (recovered_well (policy_of marked) image d b k k1 takes h.tx_answer h.recovered).0)
 
 module _ (program : Program) (a : Answer) (n : Mode) (b : Device) (k k1 : ℕ) where
   refused_well : (why : Answer) (m : Mode) (d : Device) → IsSafe d → (IsInterrupted why → ⊥)
@@ -343,7 +254,7 @@ module _ (program : Program) (a : Answer) (n : Mode) (b : Device) (k k1 : ℕ) w
     by_count : (tx : ℕ) (x : Bool) → commanded.CallsWith x program tx args d a n b k k1
         → EndsWell a b
     by_count tx true h =
-        runs_well program.image tx args d b k k1 takes (rolls_back_of program tx) a n h
+        runs_well (rolls_back_of program tx) program.image tx args d b k k1 takes a n h
     by_count tx false h = refused_well answer.RefusedArity mode.Ready d takes.1 no h
 
     by_parameters : (tx : ℕ) (x : Option ℕ) → commanded.CallsTo x program tx args d a n b k k1

@@ -1,41 +1,35 @@
 -- A chain that finishes no transaction, or only such as it rolls back, keeps the heap of its start.
 use Rattle.std.proofs.Common.{◌≡◌, ◌≢◌, ◌⊎◌, inl, inr, ℕ, suc, ◌<◌, Bool, true, false}
-use Rattle.std.proofs.Common.{Some, None, pos, refl, sym, ap, ◌∙◌, subst}
-use Rattle.std.proofs.Common.{arith}
+use Rattle.std.proofs.Common.{List, Some, None, pos, refl, sym, ap, ◌∙◌, subst, arith}
 use Rattle.cache_model.specs.Cache.{Words, view}
 use Rattle.cache_model.specs.Image.{Images}
 use Rattle.pmem.specs.Device.{Device}
-use Rattle.pool_layout.specs.declared.places.TheConstants.{LAST, DONE, MARK, SEAL}
+use Rattle.pool_layout.specs.declared.places.TheConstants.{DONE, MARK, SEAL}
 use Rattle.pool_layout.specs.Sizes.{heap_words}
 use Rattle.pool_layout.specs.Good.{Pool, Lost}
 use Rattle.pool_map.specs.declared.trap.TrapKind.{TrapKind}
 use Rattle.pool_map.specs.Trap.{trap_number}
 use Rattle.args_log.specs.Pending.{tx_number}
+use Rattle.pm_machine.specs.declared.effect.Effect.{Effect}
 use Rattle.pm_machine.specs.declared.effect.End.{End}
 use Rattle.pm_machine.specs.declared.effect.End.TheVariants.{Halted, Trapped}
+use Rattle.pm_machine.specs.declared.records.Policy.{Policy}
+use Rattle.pm_machine.specs.declared.records.Policy.TheVariants.{EndPool}
 use Rattle.pm_machine.specs.Effects.{heap_end}
 use Rattle.pm_machine.specs.Runs.{heap_in}
 use Rattle.crash_law.specs.Pools.{Call, Owed, IsBefore}
-use Rattle.crash_law.specs.Law.{IsAtRest, IsCut, IsEnd}
+use Rattle.crash_law.specs.Law.{KeepsLast, IsAtRest, IsCut, IsEnd}
 use Rattle.run_law.specs.Seen.{result_of, E, W}
 use Rattle.recovery.specs.Recovered.{IsRecovered, tx_in}
 use Rattle.recovery.specs.declared.answer.RecoverAnswer.{RecoverAnswer}
 use Rattle.recovery.specs.declared.answer.RecoverAnswer.TheVariants as recovered
 use Rattle.cut_law.specs.Law.{call_of, pool_with}
-use Rattle.abort_law.specs.Owing.{IsOwed}
-use Rattle.abort_law.proofs.Owing.{any_last}
-use Rattle.crash_law.specs.Law as ends
-use Rattle.abort_mode.specs.declared.answer.AbortAnswer.{AbortAnswer}
-use Rattle.abort_mode.specs.declared.answer.AbortAnswer.TheVariants as aborted
-use Rattle.abort_mode.specs.Answers.{IsAbortRedone}
-use Rattle.abort_law.specs.Cuts.{IsMarkedCut}
 use Rattle.cnvm_session.specs.declared.mode.Mode.{Mode}
 use Rattle.cnvm_session.specs.declared.answer.Answer.{Answer}
 use Rattle.cnvm_session.specs.declared.answer.Answer.TheVariants as answer
 use Rattle.cnvm_session.specs.declared.program.Program.{Program}
-use Rattle.cnvm_session.specs.Marks.{rolls_back_of, owes_marked}
-use Rattle.cnvm_session.specs.Outcomes.{answer_of_recovery}
-use Rattle.cnvm_session.specs.Outcomes.{answer_of_marked_recovery, RecoversBy}
+use Rattle.cnvm_session.specs.Marks.{rolls_back_of, policy_of, owes_marked}
+use Rattle.cnvm_session.specs.Outcomes.{answer_of_recovery, RecoversBy}
 use Rattle.cnvm_session.specs.Outcomes as outcomes
 use Rattle.cnvm_session.specs.Pool.{sizes_of}
 use Rattle.session_law.specs.Agrees.{Agrees}
@@ -43,15 +37,13 @@ use Rattle.session_law.specs.State.{Pending, Standing, Ready, Down, Unusable, So
 use Rattle.session_law.specs.State.{standing_as, undone_as}
 use Rattle.session_law.specs.Answers.{FindsOf, FindsOwed, Rests}
 use Rattle.session_law.specs.Answers.{RedoesBy, Recovers, Powers}
-use Rattle.session_law.specs.Holds.{HoldsPool, IsResting, OwesNone, OwesOne, OwesMarked, OwesBy}
-use Rattle.session_law.specs.Holds.{Holds}
+use Rattle.session_law.specs.Holds.{HoldsPool, IsResting, OwesNone, OwesBy, Holds}
 use Rattle.session_law.specs.Law.{IsRollback}
 use Rattle.session_law.proofs.Ones.{rest_images, at_view}
 use Rattle.session_law.proofs.Reading.{is_marked, is_unsealed, is_owed}
-use Rattle.session_law.proofs.Restoring.{Restores, not_next, good_restores, owed_restores}
-use Rattle.session_law.proofs.Restoring.{left_restores, end_sealed}
-use Rattle.session_law.proofs.Recoveries.{marked_recovers, rest_left, redo_left}
-use Rattle.session_law.proofs.MarkedRecoveries.{KeepsLast, marked_redo_left, marked_redo_restores}
+use Rattle.session_law.proofs.Restoring.{Restores, KeepsIn, not_next, good_restores, owed_restores}
+use Rattle.session_law.proofs.Restoring.{cut_restores, end_sealed}
+use Rattle.session_law.proofs.Recoveries.{marked_recovers, rest_left, redo_left, redo_restores}
 use Rattle.session_law.proofs.Powers.{HeldAs, not_owing, owing_as}
 use Rattle.session_law.proofs.Histories.{finished_counts}
 
@@ -64,17 +56,6 @@ pub not_finished : (s t : SourceState) (a : Answer) → t.done ≡ suc s.done �
 not_finished s t a more never (inl same) = absurd (omega (arith, more, same))
 not_finished s t a more never (inr rolls) = never rolls
 
--- an unmarked transaction isn't rolled back by its recovery
-never_rolls : (r : RecoverAnswer) → IsRollback (answer_of_recovery r) → ⊥
-never_rolls recovered.Clean rolls = rolls
-never_rolls (recovered.Redone v l) rolls = rolls
-never_rolls (recovered.Trap kind) rolls = rolls
-never_rolls (recovered.Unusable kind) rolls = rolls
-never_rolls recovered.Numbers rolls = rolls
-never_rolls (recovered.Off p) rolls = rolls
-never_rolls recovered.Failed rolls = rolls
-never_rolls recovered.NoMemory rolls = rolls
-
 module _ (program : Program) (super : Words) (agrees : Agrees program) (h : Words) where
   abbrev pool : Pool
   pool = pool_with program.image super
@@ -82,14 +63,9 @@ module _ (program : Program) (super : Words) (agrees : Agrees program) (h : Word
   abbrev Whole : Device → Type 0
   Whole b = Images (Restores program h) b.cache
 
-  -- where a transaction is owed: each image in which it isn't counted yet, or, of one without the
-  -- mark, isn't sealed yet
+  -- where a transaction is owed: each image that doesn't show it yet
   abbrev pub KeepsBy : (marked : Bool) → Device → SourceState → Type 0
-  KeepsBy true b s =
-      Images (λ (image : Words). image DONE ≡ pos s.done → Restores program h image) b.cache
-  KeepsBy false b s =
-      Images (λ (image : Words). image MARK ≡ pos 0 → image SEAL ≢ pos (suc s.done)
-      → Restores program h image) b.cache
+  KeepsBy marked b s = Images (KeepsIn marked program s.done h) b.cache
 
   -- the device keeps this heap
   abbrev pub KeepsAs : Standing → Device → SourceState → Type 0
@@ -177,6 +153,7 @@ module _ (program : Program) (super : Words) (agrees : Agrees program) (h : Word
           inl (Ready, p.1.0, (finds p.1.0 p.1.1).1, rests answer.RecoveredNone p)
       told (recovered.Redone v l) p = absurd (rests (answer.RecoveredRedone v l) p)
       told (recovered.Trap kind) p = absurd (rests (answer.RecoveredTrap kind) p)
+      told (recovered.Aborted kind) p = absurd (rests (answer.RecoveredAborted kind) p)
       told (recovered.Unusable kind) p = inr (kind, p.2)
       told recovered.Numbers p = inl (
         p.1.0.standing,
@@ -202,6 +179,19 @@ module _ (program : Program) (super : Words) (agrees : Agrees program) (h : Word
         (finds p.1.0 p.1.1).1,
         rests answer.NoMemory p,
       )
+
+      -- so no transaction is rolled back
+      never_rolls : (r : RecoverAnswer) → IsRollback (answer_of_recovery r)
+          → Powers program s one (answer_of_recovery r) t → ⊥
+      never_rolls recovered.Clean rolls p = rolls
+      never_rolls (recovered.Redone v l) rolls p = rolls
+      never_rolls (recovered.Trap kind) rolls p = rolls
+      never_rolls (recovered.Aborted kind) rolls p = rests (answer.RecoveredAborted kind) p
+      never_rolls (recovered.Unusable kind) rolls p = rolls
+      never_rolls recovered.Numbers rolls p = rolls
+      never_rolls (recovered.Off at) rolls p = rolls
+      never_rolls recovered.Failed rolls p = rolls
+      never_rolls recovered.NoMemory rolls p = rolls
 
     abbrev Fresh : SourceState → Type 0
     Fresh f = f ≡ standing_as (Down None) s
@@ -234,8 +224,8 @@ module _ (program : Program) (super : Words) (agrees : Agrees program) (h : Word
         let whole : Whole b =
         λ image seen w less.
         good_restores program super s.done g image
-        (rest_left program super e s g on rest held before un.tx_answer b k k1 un.recovered image
-        seen).good w less
+        (rest_left program super e s g on rest held before EndPool un.tx_answer b k k1 un.recovered
+        image seen).good w less
         ∙ sym (good_restores program super s.done g one before.good w less) ∙ restores w less in
         fresh_keeps whole
         (told Fresh
@@ -285,16 +275,22 @@ module _ (program : Program) (super : Words) (agrees : Agrees program) (h : Word
       finds_retired seal done f (inr (inr sealed)) =
           absurd (not_next (one DONE) s.done sealed.1 done)
 
+      finds_counted : one SEAL ≡ pos (suc s.done) → one DONE ≡ pos (suc s.done)
+          → (f : SourceState) → FindsOwed s.standing program s one f
+          → (f.standing ≡ Down None) × Counted f
+      finds_counted seal done f finds = finds_retired seal done f (finds_of f finds)
+
       -- the image shows that the transaction was finished
       from_retired : one SEAL ≡ pos (suc s.done) → one DONE ≡ pos (suc s.done)
           → (one SEAL ≡ pos (suc (suc s.done)) → ⊥) → Keeps s b t
       from_retired seal done unsealed =
           let un = by_owed false (not_owing program e
           (is_unsealed one (suc s.done) done unsealed)) in
+          let its = subst (λ (x : Answer). Powers program s one x t) un.answer powers in
           counted_keeps
-          (λ rolls. never_rolls un.tx_answer (subst IsRollback un.answer rolls))
-          (told Counted (λ f finds. finds_retired seal done f (finds_of f finds)) un.tx_answer
-          (subst (λ (x : Answer). Powers program s one x t) un.answer powers))
+          (λ rolls. never_rolls Counted (finds_counted seal done) un.tx_answer
+          (subst IsRollback un.answer rolls) its)
+          (told Counted (finds_counted seal done) un.tx_answer its)
 
       -- the image owes the transaction
       module _ (seal : one SEAL ≡ pos (suc s.done)) (done : one DONE ≡ pos s.done)
@@ -316,185 +312,139 @@ module _ (program : Program) (super : Words) (agrees : Agrees program) (h : Word
         still keeps same = leaf s t waiting b same refl refl
             (subst (λ (m : Bool). KeepsBy m b waiting) (sym mark) keeps)
 
-      module _ (mark : rolls_back_of program owed.tx ≡ true)
-          (owes : OwesMarked program super owed e s)
-          (keeps : KeepsBy true e s) where
+      module _ (marked : Bool) (mark : rolls_back_of program owed.tx ≡ marked)
+          (owes : OwesBy marked program super owed e s) (keeps : KeepsBy marked e s) where
+        abbrev p : Policy
+        p = policy_of marked
+
         abbrev heap : Words
         heap = owes.heap
 
-        kept_one : one DONE ≡ pos s.done → Restores program h one
-        kept_one = at_view
-            (λ (image : Words). image DONE ≡ pos s.done → Restores program h image) e.cache keeps
+        abbrev es : List Effect
+        es = owes.effects
 
-        module _ (sealed : IsOwed pool call heap one) (kept : KeepsLast owes.end s.last one) where
-          same_heap : (w : ℕ) → w < heap_words (sizes_of program) → heap w ≡ h w
-          same_heap w less = sym (owed_restores program super call heap one sealed w less)
-              ∙ kept_one sealed.done w less
+        -- an image from before the call keeps the heap
+        before_by : (m : Bool) → one DONE ≡ pos s.done → one MARK ≡ pos 0
+            → one SEAL ≢ pos (suc s.done) → KeepsIn m program s.done h one → Restores program h one
+        before_by true done unmarked unsealed kept = kept done
+        before_by false done unmarked unsealed kept = kept unmarked unsealed
 
-          after : (r : AbortAnswer) → IsAbortRedone r program.image e b k k1
-              → KeepsBy true b waiting
-          after r redone image seen done w less =
-              left_restores program super call heap (heap_end heap owes.effects) (one LAST)
-              owes.end image
-              (marked_redo_left program super agrees e s owed heap owes.end owes.effects on rest
-              owes.holds owes.takes owes.words owes.ran mark sealed kept r b k k1 redone image
-              seen) done w less
-              ∙ same_heap w less
+        kept_one : KeepsIn marked program s.done h one
+        kept_one = at_view (KeepsIn marked program s.done h) e.cache keeps
 
-          at : (x : Answer) → Back x → RedoesBy true program owed waiting one x t
-          at x back = redone_at sealed.sealed sealed.done true mark x back
+        module _ (sealed : Owed pool call (E p es) (W es) heap
+            (KeepsLast (result_of p s.last owes.end)) one) where
+          -- the heap from before the call, as the log restores it
+          same_heap : (m : Bool) → m ≡ true
+              → Owed pool call (E (policy_of m) es) (W es) heap
+              (KeepsLast (result_of (policy_of m) s.last owes.end)) one
+              → KeepsIn m program s.done h one
+              → (w : ℕ) → w < heap_words (sizes_of program) → heap w ≡ h w
+          same_heap true is seen kept w less =
+              sym (owed_restores program super call es heap _ one seen w less)
+              ∙ kept seen.done w less
+          same_heap false is seen kept w less = absurd (cc)
 
-          stays : (r : AbortAnswer) → IsAbortRedone r program.image e b k k1 → t ≡ waiting
-              → Keeps s b t
-          stays r redone same =
-              still sealed.sealed sealed.done true mark (after r redone) same
-
-          redone_keeps : (r : AbortAnswer) → IsAbortRedone r program.image e b k k1
-              → Powers program s one (answer_of_marked_recovery r) t
-              → FinishesNone s (answer_of_marked_recovery r) t → Keeps s b t
-          redone_keeps (aborted.Done v l) redone p only =
-              let done = at (answer.RecoveredRedone v l) p in
-              absurd (not_finished s t (answer.RecoveredRedone v l)
-              (ap (λ (x : SourceState). x.done) done.2) (λ rolls. rolls) only)
-          redone_keeps (aborted.Aborted kind) redone p only =
-              let same = (at (answer.RecoveredAborted kind) p).2 in
-              let back = marked_redo_restores program super agrees e s owed heap owes.end
-              owes.effects on rest owes.holds owes.takes owes.words owes.ran mark sealed kept kind
-              (aborted.Aborted kind) b k k1 refl redone in
-              let resting : IsResting program super b (undone_as Ready waiting) =
-              (subst (λ (x : SourceState). Holds program super n b x) same holds).1 in
-              leaf s t (undone_as Ready waiting) b same refl refl
-              (resting_whole b (undone_as Ready waiting) resting
-              (λ w less. back.heap w less ∙ same_heap w less))
-          redone_keeps (aborted.Off p) redone powers only =
-              stays (aborted.Off p) redone (at (answer.Stopped p) powers).1
-          redone_keeps aborted.Failed redone p only =
-              stays aborted.Failed redone (at answer.DeviceFault p)
-          redone_keeps aborted.NoMemory redone p only =
-              stays aborted.NoMemory redone (at answer.NoMemory p)
-          redone_keeps aborted.Numbers redone p only =
-              stays aborted.Numbers redone (at answer.RefusedNumbers p).1
-          redone_keeps (aborted.Unusable kind) redone p only = unusable kind p.2
-
-          from_owed : Keeps s b t
-          from_owed =
-              let names : tx_in e ≡ owed.tx = ap tx_number (sealed.call_is 0 (omega arith)) in
-              let ma = by_owed true (owing_as program e owed.tx true
-              (is_owed one s.done sealed.done sealed.sealed) names mark) in
-              redone_keeps ma.tx_answer ma.redone
-              (subst (λ (x : Answer). Powers program s one x t) ma.answer powers)
-              (subst (λ (x : Answer). FinishesNone s x t) ma.answer none)
-
-        marked_before : IsBefore pool s.done heap s.last one → Keeps s b t
-        marked_before before =
-            from_before heap owes.holds before (kept_one before.good.done)
-            (λ f finds. finds_fresh before.good.unsealed f (finds_of f finds))
-
-        from_marked : (x : End) → owes.end ≡ x
-            → IsMarkedCut pool call heap (heap_end heap owes.effects) s.last x one → Keeps s b t
-        from_marked (Halted v) ends (inl before) = marked_before before
-        from_marked (Halted v) ends (inr (inl sealed)) =
-            from_owed (any_last pool call heap _ one sealed)
-            (subst (λ (y : End). KeepsLast y s.last one) (sym ends) tt)
-        from_marked (Halted v) ends (inr (inr seen)) =
-            from_retired seen.seal_is seen.good.done seen.good.unsealed
-        from_marked (Trapped kind) ends (inl before) = marked_before before
-        from_marked (Trapped kind) ends (inr (inl still)) =
-            from_owed (any_last pool call heap _ one still)
-            (subst (λ (y : End). KeepsLast y s.last one) (sym ends) still.last_is)
-        from_marked (Trapped kind) ends (inr (inr seen)) =
-            from_retired seen.seal_is seen.good.done seen.good.unsealed
-
-      module _ (mark : rolls_back_of program owed.tx ≡ false)
-          (owes : OwesOne program super owed e s)
-          (keeps : KeepsBy false e s) where
-        kept_image : one MARK ≡ pos 0 → one SEAL ≢ pos (suc s.done) → Restores program h one
-        kept_image = at_view
-            (λ (image : Words). image MARK ≡ pos 0 → image SEAL ≢ pos (suc s.done)
-            → Restores program h image) e.cache keeps
-
-        module _ (sealed : Owed pool call (E owes.effects) (W owes.effects) owes.heap
-            (ends.KeepsLast (result_of owes.end)) one) where
-          never : (image : Words)
-              → Owed pool call (E owes.effects) (W owes.effects) owes.heap
-              (ends.KeepsLast (result_of owes.end)) image
-              ⊎ IsEnd pool call owes.heap (heap_end owes.heap owes.effects) (result_of owes.end)
+          abbrev Cut : (m : Bool) → Words → Type 0
+          Cut m image = Owed pool call (E (policy_of m) es) (W es) heap
+              (KeepsLast (result_of (policy_of m) s.last owes.end)) image
+              ⊎ IsEnd pool call heap (heap_end heap es) (result_of (policy_of m) s.last owes.end)
               image
-              → image MARK ≡ pos 0 → image SEAL ≢ pos (suc s.done) → ⊥
-          never image (inl owed) mark unsealed = unsealed owed.sealed
-          never image (inr seen) mark unsealed =
-              end_sealed program super call owes.heap (heap_end owes.heap owes.effects) owes.end
-              image seen mark unsealed
 
-          later : (r : RecoverAnswer) → IsRecovered r program.image e b k k1
-              → KeepsBy false b waiting
-          later r did image seen marked unsealed =
-              absurd (never image
-              (redo_left program super agrees e s owed owes.heap owes.end owes.effects on rest
+          after_by : (m : Bool)
+              → Owed pool call (E (policy_of m) es) (W es) heap
+              (KeepsLast (result_of (policy_of m) s.last owes.end)) one
+              → KeepsIn m program s.done h one → (image : Words) → Cut m image
+              → KeepsIn m program s.done h image
+          after_by true seen kept image left =
+              λ done w less.
+              cut_restores program super call es heap (heap_end heap es) s.last owes.end image
+              (inr left) done w less ∙ same_heap true refl seen kept w less
+          after_by false seen kept image (inl owed_still) =
+              λ unmarked unsealed. absurd (unsealed owed_still.sealed)
+          after_by false seen kept image (inr ended) =
+              λ unmarked unsealed.
+              absurd (end_sealed program super call heap (heap_end heap es) s.last owes.end image
+              ended unmarked unsealed)
+
+          after : (r : RecoverAnswer) → IsRecovered r p program.image e b k k1
+              → KeepsBy marked b waiting
+          after r did image seen =
+              after_by marked sealed kept_one image
+              (redo_left marked program super agrees e s owed heap owes.end es on rest
               owes.holds owes.takes owes.words owes.ran mark sealed r b k k1 did image seen)
-              marked unsealed)
 
-          from : (x : Answer) → Back x → RedoesBy false program owed waiting one x t
-          from x back = redone_at sealed.sealed sealed.done false mark x back
+          at : (x : Answer) → Back x → RedoesBy marked program owed waiting one x t
+          at x back = redone_at sealed.sealed sealed.done marked mark x back
 
-          remains : (r : RecoverAnswer) → IsRecovered r program.image e b k k1 → t ≡ waiting
+          stays : (r : RecoverAnswer) → IsRecovered r p program.image e b k k1 → t ≡ waiting
               → Keeps s b t
-          remains r did same = still sealed.sealed sealed.done false mark (later r did) same
+          stays r did same = still sealed.sealed sealed.done marked mark (after r did) same
 
-          rerun_keeps : (r : RecoverAnswer) → IsRecovered r program.image e b k k1
+          redone_keeps : (r : RecoverAnswer) → IsRecovered r p program.image e b k k1
               → Powers program s one (answer_of_recovery r) t
               → FinishesNone s (answer_of_recovery r) t → Keeps s b t
-          rerun_keeps recovered.Clean did p only = absurd (from answer.RecoveredNone p)
-          rerun_keeps (recovered.Redone v l) did p only =
-              let done = from (answer.RecoveredRedone v l) p in
+          redone_keeps recovered.Clean did q only = absurd (at answer.RecoveredNone q)
+          redone_keeps (recovered.Redone v l) did q only =
+              let done = at (answer.RecoveredRedone v l) q in
               absurd (not_finished s t (answer.RecoveredRedone v l)
               (ap (λ (x : SourceState). x.done) done.2) (λ rolls. rolls) only)
-          rerun_keeps (recovered.Trap kind) did p only =
-              unusable kind (from (answer.RecoveredTrap kind) p).2
-          rerun_keeps (recovered.Unusable kind) did p only = unusable kind p.2
-          rerun_keeps recovered.Numbers did p only =
-              remains recovered.Numbers did (from answer.RefusedNumbers p).1
-          rerun_keeps (recovered.Off at) did p only =
-              remains (recovered.Off at) did (from (answer.Stopped at) p).1
-          rerun_keeps recovered.Failed did p only =
-              remains recovered.Failed did (from answer.DeviceFault p)
-          rerun_keeps recovered.NoMemory did p only =
-              remains recovered.NoMemory did (from answer.NoMemory p)
+          redone_keeps (recovered.Trap kind) did q only =
+              unusable kind (at (answer.RecoveredTrap kind) q).2
+          redone_keeps (recovered.Aborted kind) did q only =
+              let told = at (answer.RecoveredAborted kind) q in
+              let back = redo_restores marked program super agrees e s owed heap owes.end es on rest
+              owes.holds owes.takes owes.words owes.ran mark sealed kind (recovered.Aborted kind) b
+              k k1 refl did in
+              let resting : IsResting program super b (undone_as Ready waiting) =
+              (subst (λ (x : SourceState). Holds program super n b x) told.2 holds).1 in
+              leaf s t (undone_as Ready waiting) b told.2 refl refl
+              (resting_whole b (undone_as Ready waiting) resting
+              (λ w less. back.heap w less ∙ same_heap marked told.0 sealed kept_one w less))
+          redone_keeps (recovered.Unusable kind) did q only = unusable kind q.2
+          redone_keeps recovered.Numbers did q only =
+              stays recovered.Numbers did (at answer.RefusedNumbers q).1
+          redone_keeps (recovered.Off phase) did q only =
+              stays (recovered.Off phase) did (at (answer.Stopped phase) q).1
+          redone_keeps recovered.Failed did q only =
+              stays recovered.Failed did (at answer.DeviceFault q)
+          redone_keeps recovered.NoMemory did q only =
+              stays recovered.NoMemory did (at answer.NoMemory q)
 
           from_sealed : Keeps s b t
           from_sealed =
               let names : tx_in e ≡ owed.tx = ap tx_number (sealed.call_is 0 (omega arith)) in
-              let un = by_owed false (owing_as program e owed.tx false
+              let its = by_owed marked (owing_as program e owed.tx marked
               (is_owed one s.done sealed.done sealed.sealed) names mark) in
-              rerun_keeps un.tx_answer un.recovered
-              (subst (λ (x : Answer). Powers program s one x t) un.answer powers)
-              (subst (λ (x : Answer). FinishesNone s x t) un.answer none)
+              redone_keeps its.tx_answer its.recovered
+              (subst (λ (x : Answer). Powers program s one x t) its.answer powers)
+              (subst (λ (x : Answer). FinishesNone s x t) its.answer none)
+
+        from_trap : (m : Bool) (kind : TrapKind)
+            → IsEnd pool call heap (heap_end heap es) (result_of (policy_of m) s.last (Trapped kind))
+            one
+            → Keeps s b t
+        from_trap true kind seen = from_retired seen.seal_is seen.good.done seen.good.unsealed
+        from_trap false kind lost = from_lost kind lost
 
         from_end : (x : End)
-            → IsEnd pool call owes.heap (heap_end owes.heap owes.effects) (result_of x) one
-            → Keeps s b t
+            → IsEnd pool call heap (heap_end heap es) (result_of p s.last x) one → Keeps s b t
         from_end (Halted v) seen = from_retired seen.seal_is seen.good.done seen.good.unsealed
-        from_end (Trapped kind) lost = from_lost kind lost
+        from_end (Trapped kind) seen = from_trap marked kind seen
 
-        from_unmarked : IsCut pool call (E owes.effects) (W owes.effects) owes.heap
-            (heap_end owes.heap owes.effects) s.last (result_of owes.end) one → Keeps s b t
-        from_unmarked (inl before) =
-            from_before owes.heap owes.holds before
-            (kept_image before.good.mark before.good.unsealed)
+        from_cut : IsCut pool call (E p es) (W es) heap (heap_end heap es) s.last
+            (result_of p s.last owes.end) one → Keeps s b t
+        from_cut (inl before) =
+            from_before heap owes.holds before
+            (before_by marked before.good.done before.good.mark before.good.unsealed kept_one)
             (λ f finds. finds_fresh before.good.unsealed f (finds_of f finds))
-        from_unmarked (inr (inl sealed)) = from_sealed sealed
-        from_unmarked (inr (inr seen)) = from_end owes.end seen
+        from_cut (inr (inl sealed)) = from_sealed sealed
+        from_cut (inr (inr seen)) = from_end owes.end seen
 
-      from_by : (marked : Bool) → rolls_back_of program owed.tx ≡ marked
-          → OwesBy marked program super owed e s → KeepsBy marked e s → Keeps s b t
-      from_by true mark owes keeps =
-          from_marked mark owes keeps owes.end refl
-          (at_view (IsMarkedCut pool call owes.heap (heap_end owes.heap owes.effects) s.last
-          owes.end) e.cache owes.left)
-      from_by false mark owes keeps =
-          from_unmarked mark owes keeps
-          (at_view (IsCut pool call (E owes.effects) (W owes.effects) owes.heap
-          (heap_end owes.heap owes.effects) s.last (result_of owes.end)) e.cache owes.left)
+        from_by : Keeps s b t
+        from_by =
+            from_cut (at_view (IsCut pool call (E p es) (W es) heap (heap_end heap es) s.last
+            (result_of p s.last owes.end)) e.cache owes.left)
 
     from_standing : (st : Standing) → s.standing ≡ st → HeldAs st program super e s
         → KeepsAs st e s → Keeps s b t

@@ -1,8 +1,8 @@
 -- A command that finishes no transaction, or rolls back the one that it finishes, keeps the heap,
 -- and so does a chain of such commands.
-use Rattle.std.proofs.Common.{◌≡◌, ◌⊎◌, inl, inr, ⊎_elim, ℕ, suc, ◌==◌, ◌&&◌, ◌<◌, Bool, true}
+use Rattle.std.proofs.Common.{◌≡◌, ◌⊎◌, inl, inr, ⊎_elim, ℕ, ◌==◌, ◌&&◌, ◌<◌, Bool, true}
 use Rattle.std.proofs.Common.{false, List, [], ◌∷◌, length, Option, Some, None, ℤ, pos, refl}
-use Rattle.std.proofs.Common.{sym, ◌≢◌, ap, ◌∙◌, subst, arith, length-append}
+use Rattle.std.proofs.Common.{sym, ap, ◌∙◌, subst, arith, length-append}
 use Rattle.std.proofs.lemmas.Bool.{eqb-true}
 use Rattle.std.specs.List.{AllByRecursion}
 use Rattle.cache_model.specs.Cache.{Words, view}
@@ -10,18 +10,16 @@ use Rattle.cache_model.specs.Image.{Images}
 use Rattle.cache_model.specs.Collapse.{bad}
 use Rattle.cache_model.specs.declared.choice.Choice.{Choice}
 use Rattle.pmem.specs.Device.{Device, memory_of, powered}
-use Rattle.pool_layout.specs.declared.places.TheConstants.{DONE, ATTEMPT, MARK, SEAL}
+use Rattle.pool_layout.specs.declared.places.TheConstants.{DONE, ATTEMPT, MARK}
 use Rattle.pool_layout.specs.Sizes.{heap_words}
 use Rattle.pool_map.specs.declared.trap.TrapKind.{TrapKind}
 use Rattle.c_types.specs.Shapes.{shapes_of}
+use Rattle.pm_machine.specs.declared.records.Policy.{Policy}
 use Rattle.pm_machine.specs.Runs.{heap_in}
 use Rattle.tx_run.specs.Standing.{is_number}
 use Rattle.tx_run.specs.Called.{IsTxCalled}
 use Rattle.tx_run.specs.declared.answer.CallAnswer.{CallAnswer}
 use Rattle.tx_run.specs.declared.answer.CallAnswer.TheVariants as called
-use Rattle.abort_mode.specs.declared.answer.AbortAnswer.{AbortAnswer}
-use Rattle.abort_mode.specs.declared.answer.AbortAnswer.TheVariants as aborted
-use Rattle.abort_mode.specs.Answers.{IsAbortCalled}
 use Rattle.cnvm_script.specs.declared.command.Command.{Command}
 use Rattle.cnvm_script.specs.declared.command.Command.TheVariants as command
 use Rattle.cnvm_session.specs.declared.mode.Mode.{Mode}
@@ -29,8 +27,8 @@ use Rattle.cnvm_session.specs.declared.mode.Mode.TheVariants as mode
 use Rattle.cnvm_session.specs.declared.answer.Answer.{Answer}
 use Rattle.cnvm_session.specs.declared.answer.Answer.TheVariants as answer
 use Rattle.cnvm_session.specs.declared.program.Program.{Program}
-use Rattle.cnvm_session.specs.Marks.{rolls_back_of}
-use Rattle.cnvm_session.specs.Outcomes.{answer_of_call, answer_of_marked_call}
+use Rattle.cnvm_session.specs.Marks.{rolls_back_of, policy_of}
+use Rattle.cnvm_session.specs.Outcomes.{answer_of_call}
 use Rattle.cnvm_session.specs.Outcomes as outcomes
 use Rattle.cnvm_session.specs.Commands as commanded
 use Rattle.cnvm_session.specs.Commands.{call_number, tx_parameters, fallen, Commanded}
@@ -48,9 +46,8 @@ use Rattle.session_law.specs.Law.{IsWordCommand, IsRolledBack, IsRollback, OnlyR
 use Rattle.session_law.specs.Law.{RollbackChainLaw}
 use Rattle.session_law.proofs.Ones.{left_rest}
 use Rattle.session_law.proofs.Reading.{numbers_small, stands_ready, stands_numbers}
-use Rattle.session_law.proofs.Restoring.{Restores}
-use Rattle.session_law.proofs.Calls.{call_keeps}
-use Rattle.session_law.proofs.MarkedCalls.{marked_call_keeps, call_restores}
+use Rattle.session_law.proofs.Restoring.{Restores, KeepsIn}
+use Rattle.session_law.proofs.Calls.{call_keeps, call_restores}
 use Rattle.session_law.proofs.Powers.{left_images, left_held}
 use Rattle.session_law.proofs.Histories.{answer_done}
 use Rattle.session_law.proofs.Chains.{chain_kept}
@@ -67,12 +64,8 @@ module _ (program : Program) (super : Words) (agrees : Agrees program) (h : Word
   -- nothing changed but what the cache doesn't show
   same_by : (marked : Bool) (d b : Device) (s : SourceState) → b.cache ≡ d.cache
       → KeepsBy program super agrees h marked d s → KeepsBy program super agrees h marked b s
-  same_by true d b s cache keeps =
-      subst (Images (λ (image : Words). image DONE ≡ pos s.done → Restores program h image))
-      (sym cache) keeps
-  same_by false d b s cache keeps =
-      subst (Images (λ (image : Words). image MARK ≡ pos 0 → image SEAL ≢ pos (suc s.done)
-      → Restores program h image)) (sym cache) keeps
+  same_by marked d b s cache keeps =
+      subst (Images (KeepsIn marked program s.done h)) (sym cache) keeps
 
   on_cache : (st : Standing) (d b : Device) (s : SourceState) → b.cache ≡ d.cache
       → Holding st d s → Holding st b s
@@ -113,8 +106,18 @@ module _ (program : Program) (super : Words) (agrees : Agrees program) (h : Word
       abbrev waiting : SourceState
       waiting = standing_as (Down (Some owed)) s
 
-      module _ (mark : rolls_back_of program tx ≡ false) where
-        cut_off : (r : CallAnswer) → IsTxCalled r program.image tx args d b k k1
+      module _ (marked : Bool) (mark : rolls_back_of program tx ≡ marked) where
+        abbrev p : Policy
+        p = policy_of marked
+
+        after_by : (m : Bool) (other : Words)
+            → KeepsIn m program s.done (heap_in (sizes_of program) d.cache) other
+            → KeepsIn m program s.done h other
+        after_by true other kept = λ done w less. kept done w less ∙ same_heap w less
+        after_by false other kept =
+            λ unmarked unsealed w less. kept unmarked unsealed w less ∙ same_heap w less
+
+        cut_off : (r : CallAnswer) → IsTxCalled r p program.image tx args d b k k1
             → (r ≡ called.Numbers → ⊥) → t ≡ waiting → Kept s b t
         cut_off r did other same = go (is_number (image DONE) && is_number (image ATTEMPT)) refl
           where
@@ -125,68 +128,24 @@ module _ (program : Program) (super : Words) (agrees : Agrees program) (h : Word
             go true numbers =
                 let small = numbers_small image s.done resting.before.good.attempt
                 resting.before.good.done resting.before.good.attempt_is numbers in
-                let after : KeepsBy program super agrees h false b waiting =
-                λ other seen marked unsealed w less.
-                call_keeps program super agrees d s resting tx args takes words small b mark r k k1
-                (did.ready resting.on (stands_ready image good numbers)) other seen marked unsealed
-                w less ∙ same_heap w less in
-                leaf program super agrees h s t waiting b same refl refl
-                (subst (λ (m : Bool). KeepsBy program super agrees h m b waiting) (sym mark) after)
-            go false numbers =
-                absurd (other (did.numbers resting.on (stands_numbers image good numbers)).0)
-
-        unmarked_keeps : (r : CallAnswer) → IsTxCalled r program.image tx args d b k k1
-            → RunsBy false program s image tx args (answer_of_call r) t
-            → FinishesNone s (answer_of_call r) t → Kept s b t
-        unmarked_keeps (called.Done v l) did runs only =
-            absurd (not_finished s t (answer.Done v l)
-            (ap (λ (x : SourceState). x.done) runs.2) (λ rolls. rolls) only)
-        unmarked_keeps (called.Trap kind) did runs only =
-            leaf program super agrees h s t (standing_as (Unusable kind) s) b runs.2 refl refl tt
-        unmarked_keeps (called.Off p) did runs only =
-            cut_off (called.Off p) did (λ clash. absurd cc) runs
-        unmarked_keeps called.Failed did runs only =
-            cut_off called.Failed did (λ clash. absurd cc) runs
-        unmarked_keeps called.NoMemory did runs only =
-            cut_off called.NoMemory did (λ clash. absurd cc) runs
-        unmarked_keeps (called.Unusable kind) did runs only = absurd runs
-        unmarked_keeps called.Numbers did runs only =
-            stays runs.1
-            (did.numbers resting.on (stands_numbers image resting.before.good.mark runs.0)).1
-
-      module _ (mark : rolls_back_of program tx ≡ true) where
-        marked_cut_off : (r : AbortAnswer) → IsAbortCalled r program.image tx args d b k k1
-            → (r ≡ aborted.Numbers → ⊥) → t ≡ waiting → Kept s b t
-        marked_cut_off r did other same =
-            go (is_number (image DONE) && is_number (image ATTEMPT)) refl
-          where
-            good : (image MARK ≡ pos 0)
-            good = resting.before.good.mark
-
-            go : (x : Bool) → Numbers x → Kept s b t
-            go true numbers =
-                let small = numbers_small image s.done resting.before.good.attempt
-                resting.before.good.done resting.before.good.attempt_is numbers in
-                let after : KeepsBy program super agrees h true b waiting =
-                λ other seen done w less.
-                marked_call_keeps program super agrees d s resting tx args takes words small b mark
-                r k k1 (did.ready resting.on (stands_ready image good numbers)) other seen done w
-                less ∙ same_heap w less in
+                let after : KeepsBy program super agrees h marked b waiting =
+                λ other seen. after_by marked other
+                (call_keeps marked program super agrees d s resting tx args takes words small b mark
+                r k k1 (did.ready resting.on (stands_ready image good numbers)) other seen) in
                 leaf program super agrees h s t waiting b same refl refl
                 (subst (λ (m : Bool). KeepsBy program super agrees h m b waiting) (sym mark) after)
             go false numbers =
                 absurd (other (did.numbers resting.on (stands_numbers image good numbers)).0)
 
         -- a call that is rolled back
-        back : (kind : TrapKind)
-            → IsAbortCalled (aborted.Aborted kind) program.image tx args d b k k1
+        back : (kind : TrapKind) → IsTxCalled (called.Aborted kind) p program.image tx args d b k k1
             → IsRolledBack program (heap_in (sizes_of program) d.cache) s.last b
         back kind did = go (is_number (image DONE) && is_number (image ATTEMPT)) refl
           where
             go : (x : Bool) → Numbers x
                 → IsRolledBack program (heap_in (sizes_of program) d.cache) s.last b
             go true numbers =
-                call_restores program super agrees d s resting tx args takes words
+                call_restores marked program super agrees d s resting tx args takes words
                 (numbers_small image s.done resting.before.good.attempt
                 resting.before.good.done resting.before.good.attempt_is numbers) b mark kind k k1
                 (did.ready resting.on (stands_ready image resting.before.good.mark numbers))
@@ -195,39 +154,37 @@ module _ (program : Program) (super : Words) (agrees : Agrees program) (h : Word
                 (stands_numbers image resting.before.good.mark numbers)).0 in
                 absurd cc
 
-        marked_keeps : (r : AbortAnswer) → IsAbortCalled r program.image tx args d b k k1
-            → RunsBy true program s image tx args (answer_of_marked_call r) t
-            → FinishesNone s (answer_of_marked_call r) t → Kept s b t
-        marked_keeps (aborted.Done v l) did runs only =
+        call_kept : (r : CallAnswer) → IsTxCalled r p program.image tx args d b k k1
+            → RunsBy marked program s image tx args (answer_of_call r) t
+            → FinishesNone s (answer_of_call r) t → Kept s b t
+        call_kept (called.Done v l) did runs only =
             absurd (not_finished s t (answer.Done v l)
             (ap (λ (x : SourceState). x.done) runs.2) (λ rolls. rolls) only)
-        marked_keeps (aborted.Aborted kind) did runs only =
+        call_kept (called.Trap kind) did runs only =
+            leaf program super agrees h s t (standing_as (Unusable kind) s) b runs.2 refl refl tt
+        call_kept (called.Aborted kind) did runs only =
             let rested : IsResting program super b (undone_as Ready s) =
             (subst (λ (x : SourceState). Holds program super n b x) runs.2 holds).1 in
             leaf program super agrees h s t (undone_as Ready s) b runs.2 refl refl
             (resting_whole program super agrees h b (undone_as Ready s) rested
             (λ w less. (back kind did).heap w less ∙ same_heap w less))
-        marked_keeps (aborted.Off p) did runs only =
-            marked_cut_off (aborted.Off p) did (λ clash. absurd cc) runs
-        marked_keeps aborted.Failed did runs only =
-            marked_cut_off aborted.Failed did (λ clash. absurd cc) runs
-        marked_keeps aborted.NoMemory did runs only =
-            marked_cut_off aborted.NoMemory did (λ clash. absurd cc) runs
-        marked_keeps (aborted.Unusable kind) did runs only = absurd runs
-        marked_keeps aborted.Numbers did runs only =
+        call_kept (called.Off at) did runs only =
+            cut_off (called.Off at) did (λ clash. absurd cc) runs
+        call_kept called.Failed did runs only =
+            cut_off called.Failed did (λ clash. absurd cc) runs
+        call_kept called.NoMemory did runs only =
+            cut_off called.NoMemory did (λ clash. absurd cc) runs
+        call_kept (called.Unusable kind) did runs only = absurd runs
+        call_kept called.Numbers did runs only =
             stays runs.1
             (did.numbers resting.on (stands_numbers image resting.before.good.mark runs.0)).1
 
       by_mark : (marked : Bool) → rolls_back_of program tx ≡ marked
           → outcomes.RunsBy marked program.image tx args d a n b k k1
           → RunsBy marked program s image tx args a t → Kept s b t
-      by_mark false mark did runs =
-          unmarked_keeps mark did.tx_answer did.called
-          (subst (λ (x : Answer). RunsBy false program s image tx args x t) did.answer runs)
-          (subst (λ (x : Answer). FinishesNone s x t) did.answer none)
-      by_mark true mark did runs =
-          marked_keeps mark did.tx_answer did.called
-          (subst (λ (x : Answer). RunsBy true program s image tx args x t) did.answer runs)
+      by_mark marked mark did runs =
+          call_kept marked mark did.tx_answer did.called
+          (subst (λ (x : Answer). RunsBy marked program s image tx args x t) did.answer runs)
           (subst (λ (x : Answer). FinishesNone s x t) did.answer none)
 
     by_count : (tx count : ℕ) (same : Bool) → (count == length args) ≡ same
@@ -342,11 +299,8 @@ module _ (program : Program) (super : Words) (agrees : Agrees program) (h : Word
 
       cut_by : (marked : Bool) → KeepsBy program super agrees h marked d s
           → KeepsBy program super agrees h marked e s
-      cut_by true here = left_images program super choice d s
-          (λ (image : Words). image DONE ≡ pos s.done → Restores program h image) here
-      cut_by false here = left_images program super choice d s
-          (λ (image : Words). image MARK ≡ pos 0 → image SEAL ≢ pos (suc s.done)
-          → Restores program h image) here
+      cut_by marked here =
+          left_images program super choice d s (KeepsIn marked program s.done h) here
 
       cut_keeps : (st : Standing) → Holding st d s → Holding st e s
       cut_keeps Ready here = left_images program super choice d s (Restores program h) here

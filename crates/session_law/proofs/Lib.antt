@@ -10,13 +10,10 @@ pub mod Redone
 pub mod Heaps
 pub mod Reading
 pub mod Restoring
+pub mod Exact
 pub mod Resting
 pub mod Calls
 pub mod Recoveries
-pub mod MarkedExact
-pub mod MarkedRuns
-pub mod MarkedCalls
-pub mod MarkedRecoveries
 pub mod Powers
 pub mod Commands
 pub mod Creating

@@ -1,105 +1,94 @@
--- The number of logged stores: there is one, and it is larger than a bound exactly where one of
--- these stores comes after as many others as the bound says. So a transaction comes to one outcome,
--- and a list of them leads to one pool.
-use Rattle.std.proofs.Common.{◌≡◌, inl, inr, ⊎_elim, ℕ, zero, suc, ◌<◌, Bool, true, false, List, []}
-use Rattle.std.proofs.Common.{◌∷◌, ◌++◌, ℤ, refl, sym, ap, ◌∙◌, subst, arith}
+-- The number of words that take a record: there is one, and it is larger than a bound exactly where
+-- a store takes a record after as many others as the bound says. So a transaction comes to one
+-- outcome, and a list of them leads to one pool.
+use Rattle.std.proofs.Common.{◌≡◌, inl, inr, ℕ, zero, suc, ◌<◌, ◌≤◌, Bool, true, false, List, []}
+use Rattle.std.proofs.Common.{◌∷◌, ◌++◌, ℤ, refl, sym, ap, ◌∙◌, subst, arith, append_assoc}
+use Rattle.nvm_base.specs.Listed.{is_listed}
 use Rattle.ir.specs.declared.function.IrFunction.{IrFunction}
-use Rattle.ir.specs.declared.site.Site.{Site}
-use Rattle.ir.specs.Clobber.{IsLogged}
 use Rattle.pool_map.specs.PoolMap.{PoolMap}
 use Rattle.c_meaning.specs.Transaction.{Outcome, Done, Trap}
 use Rattle.lower.specs.Program.{lowered}
 use Rattle.cnvm_session.specs.declared.program.Program.{Program}
 use Rattle.cnvm_session.specs.Marks.{rolls_back_of}
-use Rattle.session_law.specs.Logged.{AreLogged, FillsLog, StoreAt, AreLoggedFirst}
-use Rattle.session_law.specs.Source.{store_sites, run_stores, LogsBy, outcome_with}
+use Rattle.session_law.specs.Logged.{StoreAt, TakeRecords, FillsLog}
+use Rattle.session_law.specs.Source.{run_stores, LogsBy, outcome_with}
 use Rattle.session_law.specs.History.{LeavesPool, LeadsTo}
 use Rattle.session_law.specs.Law.{DeterminedLaw, LedLaw, FullLaw}
 
-module _ (functions : List IrFunction) where
-  one_number : (sites : List Site) (n m : ℕ) → AreLogged functions sites n →
-      AreLogged functions sites m → n ≡ m
-  one_number [] n m none nothing = none ∙ sym nothing
-  one_number (site ∷ sites) n m (inl a) (inl b) =
-      a.1 ∙ ap suc (one_number sites a.0 b.0 a.3 b.3) ∙ sym b.1
-  one_number (site ∷ sites) n m (inl a) (inr b) = absurd (b.0 a.2)
-  one_number (site ∷ sites) n m (inr a) (inl b) = absurd (a.0 b.2)
-  one_number (site ∷ sites) n m (inr a) (inr b) = one_number sites n m a.1 b.1
+clash : {A : Type 0} (b : Bool) → b ≡ true → b ≡ false → A
+clash b on off = let e : true ≡ false = sym on ∙ off in absurd cc
 
-  -- the same with the first to each heap word
-  one_first : (ls : List ℕ) (stores : List StoreAt) (n m : ℕ)
-      → AreLoggedFirst functions ls stores n → AreLoggedFirst functions ls stores m → n ≡ m
-  one_first ls [] n m none nothing = none ∙ sym nothing
-  one_first ls (a ∷ stores) n m (inl x) (inl y) =
-      x.1 ∙ ap suc (one_first (a.word ∷ ls) stores x.0 y.0 x.3 y.3) ∙ sym y.1
-  one_first ls (a ∷ stores) n m (inl x) (inr y) =
-      absurd (⊎_elim (λ logged. y.0 logged)
-      (λ fresh. let clash : true ≡ false = sym y.1 ∙ fresh in absurd cc) x.2)
-  one_first ls (a ∷ stores) n m (inr x) (inl y) =
-      absurd (⊎_elim (λ logged. x.0 logged)
-      (λ fresh. let clash : true ≡ false = sym x.1 ∙ fresh in absurd cc) y.2)
-  one_first ls (a ∷ stores) n m (inr x) (inr y) = one_first ls stores n m x.2 y.2
+module _ (rolls : Bool) (functions : List IrFunction) where
+  -- a first part of the stores takes no more records than all of them
+  part : (xs ys : List StoreAt) (ls : List ℕ) (n m : ℕ)
+      → TakeRecords rolls functions ls (xs ++ ys) n → TakeRecords rolls functions ls xs m → m ≤ n
+  part [] ys ls n m all none = omega (arith, none)
+  part (a ∷ xs) ys ls n m (inl x) (inl y) =
+      let less = part xs ys (a.word ∷ ls) x.0 y.0 x.4 y.4 in omega (arith, x.1, y.1, less)
+  part (a ∷ xs) ys ls n m (inl x) (inr y) = clash (is_listed a.word ls) (y.0 x.2) x.3
+  part (a ∷ xs) ys ls n m (inr x) (inl y) = clash (is_listed a.word ls) (x.0 y.2) y.3
+  part (a ∷ xs) ys ls n m (inr x) (inr y) = part xs ys ls n m x.1 y.1
 
-  fills : (sites : List Site) (n records : ℕ) → AreLogged functions sites n → records < n →
-      FillsLog functions records sites
-  fills [] n records none less = absurd (omega (arith, none, less))
-  fills (site ∷ sites) n zero (inl a) less = record {
+  one_number : (stores : List StoreAt) (ls : List ℕ) (n m : ℕ)
+      → TakeRecords rolls functions ls stores n → TakeRecords rolls functions ls stores m → n ≡ m
+  one_number [] ls n m none nothing = none ∙ sym nothing
+  one_number (a ∷ stores) ls n m (inl x) (inl y) =
+      x.1 ∙ ap suc (one_number stores (a.word ∷ ls) x.0 y.0 x.4 y.4) ∙ sym y.1
+  one_number (a ∷ stores) ls n m (inl x) (inr y) = clash (is_listed a.word ls) (y.0 x.2) x.3
+  one_number (a ∷ stores) ls n m (inr x) (inl y) = clash (is_listed a.word ls) (x.0 y.2) y.3
+  one_number (a ∷ stores) ls n m (inr x) (inr y) = one_number stores ls n m x.1 y.1
+
+  fills : (stores : List StoreAt) (ls : List ℕ) (n records : ℕ)
+      → TakeRecords rolls functions ls stores n → records < n
+      → FillsLog rolls functions ls records stores
+  fills [] ls n records none less = absurd (omega (arith, none, less))
+  fills (a ∷ stores) ls n zero (inl x) less = record {
     before = [];
-    due = site;
-    later = sites;
+    due = a;
+    later = stores;
     is = refl;
-    logged = a.2;
     full = refl;
+    more = inl (0, refl, x.2, x.3, refl);
   }
-  fills (site ∷ sites) n (suc records) (inl a) less =
-      let f = fills sites a.0 records a.3 (let is = a.1 in omega (arith, is, less)) in
+  fills (a ∷ stores) ls n (suc records) (inl x) less =
+      let f = fills stores (a.word ∷ ls) x.0 records x.4 (omega (arith, x.1, less)) in
       record {
-        before = site ∷ f.before;
+        before = a ∷ f.before;
         due = f.due;
         later = f.later;
-        is = ap (λ (xs : List Site). site ∷ xs) f.is;
-        logged = f.logged;
-        full = inl (records, refl, a.2, f.full);
+        is = ap (λ (xs : List StoreAt). a ∷ xs) f.is;
+        full = inl (records, refl, x.2, x.3, f.full);
+        more = inl (suc records, refl, x.2, x.3, f.more);
       }
-  fills (site ∷ sites) n records (inr a) less =
-      let f = fills sites n records a.1 less in
+  fills (a ∷ stores) ls n records (inr x) less =
+      let f = fills stores ls n records x.1 less in
       record {
-        before = site ∷ f.before;
+        before = a ∷ f.before;
         due = f.due;
         later = f.later;
-        is = ap (λ (xs : List Site). site ∷ xs) f.is;
-        logged = f.logged;
-        full = inr (a.0, f.full);
+        is = ap (λ (xs : List StoreAt). a ∷ xs) f.is;
+        full = inr (x.0, f.full);
+        more = inr (x.0, f.more);
       }
 
-  -- a logged store counts as one more than those before it
-  more : (before : List Site) (due : Site) (later : List Site) (n records : ℕ) →
-      IsLogged functions due → AreLogged functions before records →
-      AreLogged functions (before ++ due ∷ later) n → records < n
-  more [] due later n records logged none (inl a) = omega (arith, none, a.1)
-  more [] due later n records logged none (inr a) = absurd (a.0 logged)
-  more (site ∷ before) due later n records logged (inl a) (inl b) =
-      let less = more before due later b.0 a.0 logged a.3 b.3 in
-      omega (arith, a.1, b.1, less)
-  more (site ∷ before) due later n records logged (inl a) (inr b) = absurd (b.0 a.2)
-  more (site ∷ before) due later n records logged (inr a) (inl b) = absurd (a.0 b.2)
-  more (site ∷ before) due later n records logged (inr a) (inr b) =
-      more before due later n records logged a.1 b.1
+  filled : (stores : List StoreAt) (n records : ℕ) → TakeRecords rolls functions [] stores n
+      → FillsLog rolls functions [] records stores → records < n
+  filled stores n records all f =
+      let parts : stores ≡ (f.before ++ f.due ∷ []) ++ f.later =
+      f.is ∙ sym (append_assoc f.before (f.due ∷ []) f.later) in
+      let less = part (f.before ++ f.due ∷ []) f.later [] n (suc records)
+      (subst (λ (xs : List StoreAt). TakeRecords rolls functions [] xs n) parts all) f.more in
+      omega (arith, less)
 
 pub full_law : FullLaw
-full_law functions sites n records are = (
-  (λ less. fills functions sites n records are less),
-  (λ f. more functions f.before f.due f.later n records f.logged f.full
-      (subst (λ (xs : List Site). AreLogged functions xs n) f.is are)),
-)
+full_law rolls functions stores n records all =
+    (fills rolls functions stores [] n records all, filled rolls functions stores n records all)
 
 pub one_logged : (marked : Bool) (program : Program) (pool : PoolMap) (tx : ℕ) (args : List ℤ)
     (n m : ℕ) → LogsBy marked program pool tx args n → LogsBy marked program pool tx args m → n ≡ m
-one_logged false program pool tx args n m first second =
-    one_number (lowered program.typed).functions (store_sites program pool tx args) n m first second
-one_logged true program pool tx args n m first second =
-    one_first (lowered program.typed).functions [] (run_stores program pool tx args) n m first
-    second
+one_logged marked program pool tx args n m first second =
+    one_number marked (lowered program.typed).functions (run_stores program pool tx args) [] n m
+    first second
 
 pub one_outcome : DeterminedLaw
 one_outcome marked program pool tx args n m o p first second =

@@ -38,12 +38,9 @@ use Rattle.cut_law.specs.Law.{call_of, pool_with}
 use Rattle.cnvm_session.specs.declared.mode.Mode.{Mode}
 use Rattle.cnvm_session.specs.declared.answer.Answer.{Answer}
 use Rattle.cnvm_session.specs.declared.program.Program.{Program}
-use Rattle.cnvm_session.specs.Marks.{rolls_back_of}
-use Rattle.pm_machine.specs.declared.effect.End.{End}
-use Rattle.pm_machine.specs.declared.effect.End.TheVariants.{Halted, Trapped}
-use Rattle.abort_law.specs.Owing.{Every, result_by}
+use Rattle.cnvm_session.specs.Marks.{rolls_back_of, policy_of}
+use Rattle.pm_machine.specs.declared.records.Policy.{Policy}
 use Rattle.cut_law.proofs.Cuts.{keeps}
-use Rattle.abort_law.specs.Cuts.{IsMarkedCut}
 use Rattle.cnvm_session.specs.Commands.{tx_parameters}
 use Rattle.cnvm_session.specs.Opening.{opening_events}
 use Rattle.cnvm_session.specs.Outcomes as outcomes
@@ -54,13 +51,13 @@ use Rattle.session_law.specs.Agrees.{Agrees, RunsAs}
 use Rattle.session_law.specs.State.{Down, Unusable, SourceState}
 use Rattle.session_law.specs.Answers.{Powers}
 use Rattle.session_law.specs.Opened.{opened_heap, recorded_in, opened}
-use Rattle.session_law.specs.Holds.{HoldsPool, OwesNone, OwesOne, OwesMarked, OwesBy, Holds}
+use Rattle.session_law.specs.Holds.{HoldsPool, OwesNone, OwesBy, Holds}
 use Rattle.session_law.proofs.Words.{AreAll, pool_words, restored_words, recorded_words}
 use Rattle.session_law.proofs.Heaps.{length_words}
 use Rattle.session_law.proofs.Ones.{rest_images}
 use Rattle.session_law.proofs.Retired.{attempt_small}
 use Rattle.session_law.proofs.Reading.{kind_read, taken_is, next_done}
-use Rattle.session_law.proofs.MarkedRuns.{marked_run}
+use Rattle.session_law.proofs.Exact.{run_recorded}
 use Rattle.session_law.proofs.Powers.{HeldAs, held_recovers}
 use Rattle.cnvm_session.proofs.Writing.{written_word, written_rest}
 
@@ -290,47 +287,23 @@ module _ (program : Program) (agrees : Agrees program) (words : List ℤ)
         words = opened_words;
       }
 
-      owes_one : OwesOne program image (recorded_in program image) e s
-      owes_one =
-          record {
-            heap = h;
-            holds = held;
-            takes = takes;
-            words = args_are;
-            end = runs.end;
-            effects = runs.effects;
-            ran = runs.ran;
-            left = all_of (IsCut pool (call_of s.done tx args) (E runs.effects) (W runs.effects) h
-                (heap_end h runs.effects) s.last (result_of runs.end))
-                (inr (inl (owed_for (E runs.effects) (W runs.effects)
-                (KeepsLast (result_of runs.end)) (keeps runs.end (image LAST)))));
-          }
-
-      begins : (end : End) (g : Words)
-          → IsMarkedCut pool (call_of s.done tx args) h g s.last end image
-      begins (Halted v) g =
-          inr (inl (owed_for Every Every (KeepsLast (result_by s.last (Halted v))) tt))
-      begins (Trapped kind) g =
-          inr (inl (owed_for Every Every (KeepsLast (result_by s.last (Trapped kind))) refl))
-
-      owes_marked_one : OwesMarked program image (recorded_in program image) e s
-      owes_marked_one =
-          let run = marked_run program s (recorded_in program image) h held runs in
-          record {
-            heap = h;
-            holds = held;
-            takes = takes;
-            words = args_are;
-            end = run.0;
-            effects = run.1;
-            ran = run.2;
-            left = all_of (IsMarkedCut pool (call_of s.done tx args) h (heap_end h run.1) s.last
-                run.0) (begins run.0 (heap_end h run.1));
-          }
-
       owes_by : (marked : Bool) → OwesBy marked program image (recorded_in program image) e s
-      owes_by false = owes_one
-      owes_by true = owes_marked_one
+      owes_by marked =
+          let p : Policy = policy_of marked in
+          let run = run_recorded marked program h tx args runs in
+          record {
+            heap = h;
+            holds = held;
+            takes = takes;
+            words = args_are;
+            end = run.end;
+            effects = run.effects;
+            ran = run.ran;
+            left = all_of (IsCut pool (call_of s.done tx args) (E p run.effects) (W run.effects) h
+                (heap_end h run.effects) s.last (result_of p s.last run.end))
+                (inr (inl (owed_for (E p run.effects) (W run.effects)
+                (KeepsLast (result_of p s.last run.end)) (keeps p s.last run.end))));
+          }
 
   -- what the device holds, by the mark and the seal
   by_seal : image MARK ≡ pos 0 → (b : Bool) → is_sealed image ≡ b

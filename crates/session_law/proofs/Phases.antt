@@ -29,13 +29,15 @@ use Rattle.args_log.specs.Seal.{unsealed_events, sealing_events, seal_events}
 use Rattle.args_log.specs.Retire.{retire_events, mark_events}
 use Rattle.pm_machine.specs.declared.effect.End.{End}
 use Rattle.pm_machine.specs.declared.effect.End.TheVariants.{Halted, Trapped}
+use Rattle.pm_machine.specs.declared.records.Policy.{Policy}
+use Rattle.pm_machine.specs.declared.records.Policy.TheVariants.{EndPool, RollBack}
 use Rattle.pm_machine.specs.Machine.{start}
 use Rattle.pm_machine.specs.Runs.{Due, end_of, due_on}
 use Rattle.crash_law.specs.Pools.{Call}
 use Rattle.crash_law.specs.Law.{IsAtRest}
 use Rattle.crash_law.proofs.Rest.{due_seal_rest}
 use Rattle.tx_run.specs.Standing.{is_number}
-use Rattle.tx_run.specs.Due.{due_run, due_seal, due_unsealed, tail_events}
+use Rattle.tx_run.specs.Due.{due_run, due_seal, due_unsealed, tail_events, retiring_still}
 use Rattle.tx_run.specs.Called.{Called, WentAt}
 use Rattle.tx_run.specs.declared.answer.CallAnswer.{CallAnswer}
 use Rattle.tx_run.specs.declared.answer.CallAnswer.TheVariants as called
@@ -44,15 +46,11 @@ use Rattle.cnvm_session.specs.declared.mode.Mode.{Mode}
 use Rattle.cnvm_session.specs.declared.mode.Mode.TheVariants as mode
 use Rattle.cnvm_session.specs.declared.answer.Answer.TheVariants as answer
 use Rattle.cnvm_session.specs.declared.program.Program.{Program}
-use Rattle.cnvm_session.specs.Outcomes.{answer_of_call, answer_of_marked_call}
+use Rattle.cnvm_session.specs.Outcomes.{answer_of_call}
 use Rattle.cnvm_session.specs.Outcomes as commanded_by
-use Rattle.cnvm_session.specs.Marks.{rolls_back_of}
+use Rattle.cnvm_session.specs.Marks.{rolls_back_of, policy_of}
 use Rattle.clobber_log.specs.Restore.{restore_events}
 use Rattle.cut_law.proofs.Backs.{misses_restore}
-use Rattle.abort_mode.specs.Due as abort
-use Rattle.abort_mode.specs.Answers.{AbortCalled, AbortWentAt}
-use Rattle.abort_mode.specs.declared.answer.AbortAnswer.{AbortAnswer}
-use Rattle.abort_mode.specs.declared.answer.AbortAnswer.TheVariants as aborted
 use Rattle.cnvm_session.specs.Commands as commanded
 use Rattle.cnvm_session.specs.Commands.{call_number, tx_parameters}
 use Rattle.cnvm_session.specs.Pool.{sizes_of}
@@ -65,7 +63,6 @@ use Rattle.session_law.proofs.Cleaning.{missed_at, rest_at}
 use Rattle.session_law.proofs.Retired.{next_small}
 use Rattle.session_law.proofs.Reading.{numbers_small, stands_ready, stands_numbers}
 use Rattle.session_law.proofs.Calls.{ran_events}
-use Rattle.session_law.proofs.MarkedCalls.{marked_events}
 
 -- if a list of events is refused at one of them, what holds during all but its last event still
 -- holds
@@ -97,24 +94,17 @@ misses_payload f args few =
     (misses_append SEAL (flushes_from 3 (payload_lines (length args))) (Fence ∷ [])
     (misses_flushes 3 (payload_lines (length args))) tt)
 
-misses_tail : (end : End) (c : Cache) → Misses SEAL (tail_events end c)
+-- nor do the events after a run: those of the log store no word below the heap
+misses_tail : (p : Policy) (z : Sizes) (end : End) (c : Cache) → Misses SEAL (tail_events p z end c)
 unfolding retire_events mark_events
-misses_tail (Halted v) c = (
+misses_tail p z (Halted v) c = (
   (λ e. absurd (omega arith)),
   ((λ e. absurd (omega arith)), ((λ e. absurd (omega arith)), tt)),
 )
-misses_tail (Trapped kind) c = ((λ e. absurd (omega arith)), tt)
-
--- the log's events store no word below the heap
-misses_undo : (z : Sizes) (end : End) (c : Cache) → Misses SEAL (abort.abort_tail_events z end c)
-unfolding retire_events
-misses_undo z (Halted v) c = (
-  (λ e. absurd (omega arith)),
-  ((λ e. absurd (omega arith)), ((λ e. absurd (omega arith)), tt)),
-)
-misses_undo z (Trapped kind) c =
+misses_tail EndPool z (Trapped kind) c = ((λ e. absurd (omega arith)), tt)
+misses_tail RollBack z (Trapped kind) c =
     misses_append SEAL (restore_events z (view c))
-    (abort.retiring_still (play c (restore_events z (view c))))
+    (retiring_still (play c (restore_events z (view c))))
     (misses_restore z SEAL (view c) (omega arith)) (
       (λ e. absurd (omega arith)),
       ((λ e. absurd (omega arith)), ((λ e. absurd (omega arith)), tt)),
@@ -183,26 +173,16 @@ module _ (program : Program) (super : Words) (agrees : Agrees program)
       seal_after = sealed_word (cast_signed w64 tx) (take 22 args) (number_after (view c DONE))
           c ∙ number
 
-      run_misses : Misses SEAL (due_run program.image (start program.image tx args) cache_after)
-      run_misses =
-          let ran : Due = due_on program.image (start program.image tx args) cache_after in
-          misses_append SEAL ran.events (tail_events (end_of ran.fate)
-          (play cache_after ran.events))
-          (ran_events program super agrees d s resting tx args takes words small SEAL
-          (omega arith))
-          (misses_tail (end_of ran.fate) (play cache_after ran.events))
-
-      marked_misses : Misses SEAL
-          (abort.due_run program.image (start program.image tx args) cache_after)
-      marked_misses =
-          let ran : Due = abort.abort_due_on program.image (start program.image tx args)
-          cache_after in
+      run_misses : (marked : Bool) → Misses SEAL
+          (due_run (policy_of marked) program.image (start program.image tx args) cache_after)
+      run_misses marked =
+          let p : Policy = policy_of marked in
+          let ran : Due = due_on p program.image (start program.image tx args) cache_after in
           misses_append SEAL ran.events
-          (abort.abort_tail_events (sizes_of program) (end_of ran.fate)
-          (play cache_after ran.events))
-          (marked_events program super agrees d s resting tx args takes words small SEAL
+          (tail_events p (sizes_of program) (end_of ran.fate) (play cache_after ran.events))
+          (ran_events marked program super agrees d s resting tx args takes words small SEAL
           (omega arith))
-          (misses_undo (sizes_of program) (end_of ran.fate) (play cache_after ran.events))
+          (misses_tail p (sizes_of program) (end_of ran.fate) (play cache_after ran.events))
 
       sealed : (list : List CacheEvent) → Misses SEAL list → (between : Device)
           → between.cache ≡ cache_after → PlaysPart refusal.Off between list b
@@ -216,41 +196,25 @@ module _ (program : Program) (super : Words) (agrees : Agrees program)
           (subst (λ (x : Cache). during x list Q) (sym same) all) in
           λ image is. kept image is ∙ seal_after
 
-      went : (at : Phase) → WentAt at program.image tx args d b → Images (HasPhase at s) b.cache
-      went phase.Unsealed h = unsealed h
-      went phase.Sealing h = λ image is. tt
-      went phase.Sealed h =
-          sealed (due_run program.image (start program.image tx args) cache_after) run_misses
-          h.between (all_cache (due_seal tx args c) d h.between h.done) h.went
-
-      -- the same of a call of a marked transaction
-      went_marked : (at : Phase) → AbortWentAt at program.image tx args d b
-          → Images (HasPhase at s) b.cache
-      went_marked phase.Unsealed h = unsealed h
-      went_marked phase.Sealing h = λ image is. tt
-      went_marked phase.Sealed h =
-          sealed (abort.due_run program.image (start program.image tx args) cache_after)
-          marked_misses h.between (all_cache (due_seal tx args c) d h.between h.done) h.went
+      went : (marked : Bool) (at : Phase)
+          → WentAt at (policy_of marked) program.image tx args d b → Images (HasPhase at s) b.cache
+      went marked phase.Unsealed h = unsealed h
+      went marked phase.Sealing h = λ image is. tt
+      went marked phase.Sealed h =
+          sealed
+          (due_run (policy_of marked) program.image (start program.image tx args) cache_after)
+          (run_misses marked) h.between (all_cache (due_seal tx args c) d h.between h.done) h.went
 
   -- the phase, from the call's answer
   off_of : (r : CallAnswer) (at : Phase) → answer.Stopped at ≡ answer_of_call r → r ≡ called.Off at
   off_of (called.Done v l) at e = absurd cc
   off_of (called.Trap kind) at e = absurd cc
+  off_of (called.Aborted kind) at e = absurd cc
   off_of (called.Off p) at e = let same : at ≡ p = cc in ap called.Off (sym same)
   off_of called.Failed at e = absurd cc
   off_of (called.Unusable kind) at e = absurd cc
   off_of called.Numbers at e = absurd cc
   off_of called.NoMemory at e = absurd cc
-
-  off_of_marked : (r : AbortAnswer) (at : Phase) → answer.Stopped at ≡ answer_of_marked_call r
-      → r ≡ aborted.Off at
-  off_of_marked (aborted.Done v l) at e = absurd cc
-  off_of_marked (aborted.Aborted kind) at e = absurd cc
-  off_of_marked (aborted.Off p) at e = let same : at ≡ p = cc in ap aborted.Off (sym same)
-  off_of_marked aborted.Failed at e = absurd cc
-  off_of_marked (aborted.Unusable kind) at e = absurd cc
-  off_of_marked aborted.Numbers at e = absurd cc
-  off_of_marked aborted.NoMemory at e = absurd cc
 
   module _ (tx : ℕ) (args : List ℤ) (at : Phase) (n : Mode) (k k1 : ℕ)
       (takes : tx_parameters program.image tx ≡ Some (length args)) (words : AreWords args) where
@@ -265,29 +229,18 @@ module _ (program : Program) (super : Words) (agrees : Agrees program)
     by_numbers : (numbers : Bool) → Numbers numbers → (marked : Bool) →
         commanded_by.RunsBy marked program.image tx args d (answer.Stopped at) n b k k1
         → Images (HasPhase at s) b.cache
-    by_numbers true numbers false is =
+    by_numbers true numbers marked is =
         let ran = is.called.ready resting.on
         (stands_ready (view d.cache) resting.before.good.mark numbers) in
-        went tx args takes words (small_of numbers) at
-        (subst (λ (x : CallAnswer). Called x program.image tx args d b k k1)
-        (off_of is.tx_answer at is.answer) ran).1
-    by_numbers true numbers true is =
-        let ran = is.called.ready resting.on
-        (stands_ready (view d.cache) resting.before.good.mark numbers) in
-        went_marked tx args takes words (small_of numbers) at
-        (subst (λ (x : AbortAnswer). AbortCalled x program.image tx args d b k k1)
-        (off_of_marked is.tx_answer at is.answer) ran).1
-    by_numbers false numbers false is =
+        let off : Called (called.Off at) (policy_of marked) program.image tx args d b k k1 =
+        subst (λ (x : CallAnswer). Called x (policy_of marked) program.image tx args d b k k1)
+        (off_of is.tx_answer at is.answer) ran in
+        went tx args takes words (small_of numbers) marked at off.1
+    by_numbers false numbers marked is =
         let same = (is.called.numbers resting.on
         (stands_numbers (view d.cache) resting.before.good.mark numbers)).0 in
         let clash : called.Numbers ≡ called.Off at =
         sym same ∙ off_of is.tx_answer at is.answer in
-        absurd cc
-    by_numbers false numbers true is =
-        let same = (is.called.numbers resting.on
-        (stands_numbers (view d.cache) resting.before.good.mark numbers)).0 in
-        let clash : aborted.Numbers ≡ aborted.Off at =
-        sym same ∙ off_of_marked is.tx_answer at is.answer in
         absurd cc
 
     by_call : commanded_by.Runs program tx args d (answer.Stopped at) n b k k1

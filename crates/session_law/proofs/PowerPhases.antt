@@ -10,14 +10,16 @@ use Rattle.pmem.specs.Device.{Device, memory_of, powered, blanked}
 use Rattle.pmem.specs.declared.answer.Phase.{Phase}
 use Rattle.pmem.specs.declared.answer.Phase.TheVariants as phase
 use Rattle.pmem.proofs.Refused.{all_cache, all_on}
-use Rattle.pool_layout.specs.declared.places.TheConstants.{DONE, LAST, MARK}
+use Rattle.pool_layout.specs.declared.places.TheConstants.{DONE, MARK}
 use Rattle.pool_layout.specs.Sizes.{pool_lines}
 use Rattle.pool_layout.specs.Image.{image_words}
 use Rattle.pool_layout.specs.Good.{Pool}
 use Rattle.pool_layout.proofs.Records.{pos_inj}
+use Rattle.pool_map.specs.declared.trap.TrapKind.{TrapKind}
 use Rattle.pool_map.specs.Trap.{trap_number}
 use Rattle.pm_machine.specs.declared.effect.End.{End}
 use Rattle.pm_machine.specs.declared.effect.End.TheVariants.{Halted, Trapped}
+use Rattle.pm_machine.specs.declared.records.Policy.{Policy}
 use Rattle.pm_machine.specs.Effects.{heap_end}
 use Rattle.args_log.specs.Pending.{tx_number}
 use Rattle.crash_law.specs.Pools.{Call}
@@ -25,16 +27,13 @@ use Rattle.crash_law.specs.Law.{IsAtRest, IsCut, IsEnd}
 use Rattle.run_law.specs.Seen.{result_of, E, W}
 use Rattle.recovery.specs.Recovered.{tx_in}
 use Rattle.cut_law.specs.Law.{call_of, pool_with}
-use Rattle.abort_law.specs.Owing.{IsOwed}
-use Rattle.abort_law.proofs.Owing.{any_last}
-use Rattle.abort_law.specs.Cuts.{IsMarkedCut, IsMarkedLeft}
 use Rattle.cnvm_script.specs.declared.command.Command.TheVariants as command
 use Rattle.cnvm_session.specs.declared.mode.Mode.{Mode}
 use Rattle.cnvm_session.specs.declared.mode.Mode.TheVariants as mode
 use Rattle.cnvm_session.specs.declared.answer.Answer.{Answer}
 use Rattle.cnvm_session.specs.declared.answer.Answer.TheVariants as answer
 use Rattle.cnvm_session.specs.declared.program.Program.{Program}
-use Rattle.cnvm_session.specs.Marks.{rolls_back_of}
+use Rattle.cnvm_session.specs.Marks.{rolls_back_of, policy_of}
 use Rattle.cnvm_session.specs.Commands as commanded
 use Rattle.cnvm_session.specs.Commands.{fallen}
 use Rattle.cnvm_session.specs.Opening.{opening_events}
@@ -45,13 +44,12 @@ use Rattle.session_law.specs.Agrees.{Agrees}
 use Rattle.session_law.specs.State.{Pending, Standing, Ready, Down, Unusable, SourceState}
 use Rattle.session_law.specs.Answers.{HasSeal, FindsOwed, Recovers, Powers}
 use Rattle.session_law.specs.Opened.{opened}
-use Rattle.session_law.specs.Holds.{OwesNone, OwesOne, OwesMarked, OwesBy, HoldsAs, Holds}
+use Rattle.session_law.specs.Holds.{OwesNone, OwesBy, HoldsAs, Holds}
 use Rattle.session_law.specs.Ran.{Moment, SessionStep}
 use Rattle.session_law.specs.Law.{HasPhase, RecoveryPhaseLaw}
 use Rattle.session_law.proofs.Ones.{at_view, left_rest}
 use Rattle.session_law.proofs.Reading.{is_marked, is_owed}
 use Rattle.session_law.proofs.Recoveries.{redo_keeps_seal}
-use Rattle.session_law.proofs.MarkedRecoveries.{KeepsLast, marked_redo_left}
 use Rattle.session_law.proofs.Powers.{HeldAs, owing_as, left_held}
 use Rattle.cnvm_session.proofs.Writing.{written_rest, written_word}
 use Rattle.session_law.proofs.Opening.{opened_held}
@@ -83,69 +81,37 @@ module _ (program : Program) (super : Words) (agrees : Agrees program)
         subst (λ (x : Bool). RecoversBy x program.image e a n b k k1)
         (owing_as program e owed.tx marked (is_owed one s.done done seal) names marks) is
 
-    module _ (unmarked : rolls_back_of program owed.tx ≡ false)
-        (owes : OwesOne program super owed e s) where
-      not_ended : (x : End)
-          → IsEnd pool call owes.heap (heap_end owes.heap owes.effects) (result_of x) one → ⊥
-      not_ended (Halted v) ended = not_done ended.good.done
-      not_ended (Trapped kind) lost = is_marked (one MARK) (trap_number kind) lost.0 lost.1 mark
+    module _ (marked : Bool) (marks : rolls_back_of program owed.tx ≡ marked)
+        (owes : OwesBy marked program super owed e s) where
+      abbrev p : Policy
+      p = policy_of marked
 
-      at_cut : IsCut pool call (E owes.effects) (W owes.effects) owes.heap
-          (heap_end owes.heap owes.effects) s.last (result_of owes.end) one → Sealed
+      not_trapped : (m : Bool) (kind : TrapKind)
+          → IsEnd pool call owes.heap (heap_end owes.heap owes.effects)
+          (result_of (policy_of m) s.last (Trapped kind)) one → ⊥
+      not_trapped true kind seen = not_done seen.good.done
+      not_trapped false kind lost = is_marked (one MARK) (trap_number kind) lost.0 lost.1 mark
+
+      not_ended : (x : End)
+          → IsEnd pool call owes.heap (heap_end owes.heap owes.effects) (result_of p s.last x) one
+          → ⊥
+      not_ended (Halted v) ended = not_done ended.good.done
+      not_ended (Trapped kind) ended = not_trapped marked kind ended
+
+      at_cut : IsCut pool call (E p owes.effects) (W owes.effects) owes.heap
+          (heap_end owes.heap owes.effects) s.last (result_of p s.last owes.end) one → Sealed
       at_cut (inl before) = absurd (before.good.unsealed seal)
       at_cut (inr (inl sealed)) =
           let names : tx_in e ≡ owed.tx = ap tx_number (sealed.call_is 0 (omega arith)) in
-          let un = recovers_by false sealed.done names unmarked in
-          redo_keeps_seal program super agrees e s owed owes.heap owes.end owes.effects on rest
-          owes.holds owes.takes owes.words owes.ran unmarked sealed un.tx_answer b k k1
-          un.recovered
+          let its = recovers_by marked sealed.done names marks in
+          redo_keeps_seal marked program super agrees e s owed owes.heap owes.end owes.effects on
+          rest owes.holds owes.takes owes.words owes.ran marks sealed its.tx_answer b k k1
+          its.recovered
       at_cut (inr (inr ended)) = absurd (not_ended owes.end ended)
 
-      from_unmarked : Sealed
-      from_unmarked = at_cut (at_view (IsCut pool call (E owes.effects) (W owes.effects) owes.heap
-          (heap_end owes.heap owes.effects) s.last (result_of owes.end)) e.cache owes.left)
-
-    module _ (marked : rolls_back_of program owed.tx ≡ true)
-        (owes : OwesMarked program super owed e s) where
-      of_left : (x : End) (image : Words)
-          → IsMarkedLeft pool call owes.heap (heap_end owes.heap owes.effects) (one LAST) x image
-          → HasSeal s image
-      of_left (Halted v) image (inl sealed) = sealed.sealed
-      of_left (Halted v) image (inr seen) = seen.seal_is
-      of_left (Trapped kind) image (inl still) = still.sealed
-      of_left (Trapped kind) image (inr seen) = seen.seal_is
-
-      owed_at : IsOwed pool call owes.heap one → KeepsLast owes.end s.last one → Sealed
-      owed_at sealed kept =
-          let names : tx_in e ≡ owed.tx = ap tx_number (sealed.call_is 0 (omega arith)) in
-          let ma = recovers_by true sealed.done names marked in
-          λ image among. of_left owes.end image
-          (marked_redo_left program super agrees e s owed owes.heap owes.end owes.effects on rest
-          owes.holds owes.takes owes.words owes.ran marked sealed kept ma.tx_answer b k k1
-          ma.redone image among)
-
-      at_marked : (x : End) → owes.end ≡ x
-          → IsMarkedCut pool call owes.heap (heap_end owes.heap owes.effects) s.last x one → Sealed
-      at_marked (Halted v) ends (inl before) = absurd (before.good.unsealed seal)
-      at_marked (Halted v) ends (inr (inl sealed)) =
-          owed_at (any_last pool call owes.heap _ one sealed)
-          (subst (λ (y : End). KeepsLast y s.last one) (sym ends) tt)
-      at_marked (Halted v) ends (inr (inr seen)) = absurd (not_done seen.good.done)
-      at_marked (Trapped kind) ends (inl before) = absurd (before.good.unsealed seal)
-      at_marked (Trapped kind) ends (inr (inl still)) =
-          owed_at (any_last pool call owes.heap _ one still)
-          (subst (λ (y : End). KeepsLast y s.last one) (sym ends) still.last_is)
-      at_marked (Trapped kind) ends (inr (inr seen)) = absurd (not_done seen.good.done)
-
-      from_marked : Sealed
-      from_marked = at_marked owes.end refl
-          (at_view (IsMarkedCut pool call owes.heap (heap_end owes.heap owes.effects) s.last
-          owes.end) e.cache owes.left)
-
-    pub from_owed : (marks : Bool) → rolls_back_of program owed.tx ≡ marks
-        → OwesBy marks program super owed e s → Sealed
-    from_owed false marks owes = from_unmarked marks owes
-    from_owed true marks owes = from_marked marks owes
+      pub from_owed : Sealed
+      from_owed = at_cut (at_view (IsCut pool call (E p owes.effects) (W owes.effects) owes.heap
+          (heap_end owes.heap owes.effects) s.last (result_of p s.last owes.end)) e.cache owes.left)
 
 module _ (program : Program) (super : Words) (agrees : Agrees program)
     (e : Device) (s : SourceState) (on : e.on ≡ true) (rest : IsAtRest e.cache)

@@ -11,6 +11,8 @@ use Rattle.pool_map.specs.Trap.{trap_number}
 use Rattle.pm_machine.specs.declared.effect.Effect.{Effect}
 use Rattle.pm_machine.specs.declared.effect.End.{End}
 use Rattle.pm_machine.specs.declared.effect.End.TheVariants.{Halted, Trapped}
+use Rattle.pm_machine.specs.declared.records.Policy.{Policy}
+use Rattle.pm_machine.specs.declared.records.Policy.TheVariants.{EndPool}
 use Rattle.pm_machine.specs.Effects.{heap_end}
 use Rattle.pool_layout.specs.declared.places.TheConstants.{DONE, MARK}
 use Rattle.pool_layout.specs.Good.{Lost, Pool}
@@ -21,16 +23,13 @@ use Rattle.crash_law.specs.Law.{IsAtRest, IsCut, IsEnd}
 use Rattle.run_law.specs.Seen.{result_of, E, W}
 use Rattle.args_log.specs.Pending.{tx_number}
 use Rattle.recovery.specs.Recovered.{tx_in}
-use Rattle.abort_law.specs.Owing.{IsOwed}
-use Rattle.abort_law.proofs.Owing.{any_last}
-use Rattle.abort_law.specs.Cuts.{IsMarkedCut}
 use Rattle.cut_law.specs.Law.{call_of, pool_with}
 use Rattle.cnvm_session.specs.declared.mode.Mode.{Mode}
 use Rattle.cnvm_session.specs.declared.mode.Mode.TheVariants as mode
 use Rattle.cnvm_session.specs.declared.answer.Answer.{Answer}
 use Rattle.cnvm_session.specs.declared.answer.Answer.TheVariants as answer
 use Rattle.cnvm_session.specs.declared.program.Program.{Program}
-use Rattle.cnvm_session.specs.Marks.{rolls_back_of, owes_marked}
+use Rattle.cnvm_session.specs.Marks.{rolls_back_of, policy_of, owes_marked}
 use Rattle.cnvm_session.specs.Outcomes.{RecoversBy}
 use Rattle.cnvm_session.specs.Outcomes as outcomes
 use Rattle.cnvm_session.specs.Commands as commanded
@@ -42,16 +41,13 @@ use Rattle.session_law.specs.State.{standing_as, done_with, undone_as}
 use Rattle.session_law.specs.Answers.{HasSeal, IsConcluded, FindsOf, FindsOwed, Rests}
 use Rattle.session_law.specs.Answers.{RedoesBy, Recovers, MarksAs}
 use Rattle.session_law.specs.Answers.{IsMarked, Powers}
-use Rattle.session_law.specs.Holds.{HoldsPool, OwesNone, OwesOne, OwesMarked, OwesBy, HoldsAs}
-use Rattle.session_law.specs.Holds.{Holds}
+use Rattle.session_law.specs.Holds.{HoldsPool, OwesNone, OwesBy, HoldsAs, Holds}
 use Rattle.session_law.proofs.Words.{held_words}
 use Rattle.session_law.proofs.Ones.{rest_images, at_view, left_rest, at_left}
 use Rattle.session_law.proofs.Reading.{is_marked, is_unsealed, is_owed}
 use Rattle.session_law.proofs.Resting.{resting_owes, Meant, meant, HasHalted, run_halted}
 use Rattle.session_law.proofs.Resting.{run_trapped}
 use Rattle.session_law.proofs.Recoveries.{marked_recovers, rest_recovers, redo_recovers}
-use Rattle.session_law.proofs.MarkedRuns.{marked_meant}
-use Rattle.session_law.proofs.MarkedRecoveries.{KeepsLast, marked_redo_recovers}
 
 -- a recovery of what is found never answers that the pool has a mark, or that a pick doesn't fit
 
@@ -153,7 +149,7 @@ module _ (program : Program) (super : Words) (agrees : Agrees program)
   rested found h holds before standing finds =
       let un = by_owed false (not_owing program e
       (is_unsealed one found.done before.good.done before.good.unsealed)) in
-      let done = rest_recovers program super e found h on rest holds before un.tx_answer b k k1
+      let done = rest_recovers program super e found h on rest holds before EndPool un.tx_answer b k k1
       un.recovered in (
         done.0,
         powers_of program s found done.0 one a before.good.mark finds
@@ -212,80 +208,25 @@ module _ (program : Program) (super : Words) (agrees : Agrees program)
         (record { headers = holds.headers; pool = holds.pool; words = holds.words }) before refl
         (finds_as (standing_as (Down None) s) (inl (before.good.unsealed, refl)))
 
-    module _ (mark : rolls_back_of program owed.tx ≡ false)
-        (owes : OwesOne program super owed e s) where
+    module _ (marked : Bool) (mark : rolls_back_of program owed.tx ≡ marked)
+        (owes : OwesBy marked program super owed e s) where
+      abbrev p : Policy
+      p = policy_of marked
+
       abbrev h : Words
       h = owes.heap
 
       abbrev es : List Effect
       es = owes.effects
 
-      own : Meant false program s.pool owed h owes.end es
-      own = meant program s owed h owes.end es owes.holds
+      own : Meant marked program s.pool owed h owes.end es
+      own = meant marked program s owed h owes.end es owes.holds
           (agrees.runs h owed.tx owed.args owes.holds.headers (held_words program h s owes.holds)
           owes.words owes.takes) owes.ran
 
-      at_end : (x : End) → owes.end ≡ x → IsEnd pool call h (heap_end h es) (result_of x) one
-          → Answered
-      at_end (Halted v) ends seen =
-          let has : HasHalted program (outcome_with program s.pool owed.tx owed.args own.logged) v
-          (heap_end h es) = run_halted false program s.pool owed h owes.end es own v ends in
-          let found : SourceState = done_with has.pool v (Down None) s in
-          rested found (heap_end h es)
-          (record { headers = has.headers; pool = has.holds; words = has.words })
-          (record { good = seen.good; last_is = seen.last_is }) refl
-          (finds_as found (inr (inl (
-            seen.seal_is,
-            seen.good.done,
-            subst (λ (x : Bool). IsConcluded x program owed s (Down None) found) (sym mark)
-                (own.logged, Done has.pool v, record { logs = own.logs; is = has.is }, refl),
-          ))))
-      at_end (Trapped kind) ends lost =
-          from_mark kind
-          (subst (λ (x : Standing). IsMarked x program s kind) (sym standing)
-          (subst (λ (x : Bool). MarksAs x program s owed kind) (sym mark)
-          (refl, run_trapped false program s.pool owed h owes.end es own kind ends)))
-          lost
-
-      at_cut : IsCut pool call (E es) (W es) h (heap_end h es) s.last (result_of owes.end) one
-          → Answered
-      at_cut (inl before) = at_before h owes.holds before
-      at_cut (inr (inl sealed)) =
-          let names : tx_in e ≡ owed.tx = ap tx_number (sealed.call_is 0 (omega arith)) in
-          let un = by_owed false (owing_as program e owed.tx false
-          (is_owed one s.done sealed.done sealed.sealed) names mark) in
-          let done = redo_recovers program super agrees e s owed h owes.end es on rest
-          owes.holds owes.takes owes.words owes.ran mark sealed un.tx_answer b k k1
-          un.recovered in (
-            done.0,
-            powers_of program s waiting done.0 one a sealed.mark
-                (finds_as waiting (inr (inr (sealed.sealed, sealed.done, refl))))
-                (subst (λ (x : Bool). RedoesBy x program owed waiting one a done.0) (sym mark)
-                (subst (λ (x : Answer). RedoesBy false program owed waiting one x done.0)
-                (sym un.answer) done.1)),
-            subst (λ (x : Mode). Holds program super x b done.0) (sym un.mode) done.2,
-          )
-      at_cut (inr (inr ended)) = at_end owes.end refl ended
-
-      from_unmarked : Answered
-      from_unmarked = at_cut (at_view (IsCut pool call (E es) (W es) h (heap_end h es) s.last
-          (result_of owes.end)) e.cache owes.left)
-
-    module _ (mark : rolls_back_of program owed.tx ≡ true)
-        (owes : OwesMarked program super owed e s) where
-      abbrev heap : Words
-      heap = owes.heap
-
-      abbrev effects : List Effect
-      effects = owes.effects
-
-      its_own : Meant true program s.pool owed heap owes.end effects
-      its_own = marked_meant program s owed heap owes.holds
-          (agrees.runs heap owed.tx owed.args owes.holds.headers
-          (held_words program heap s owes.holds) owes.words owes.takes) owes.end effects owes.ran
-
+      -- the transaction was finished before the cut
       finished_as : (found : SourceState) → HasSeal s one → one DONE ≡ pos (suc s.done)
-          → IsConcluded true program owed s (Down None) found
+          → IsConcluded marked program owed s (Down None) found
           → FindsOwed s.standing program s one found
       finished_as found seal done finished =
           finds_as found (inr (inl (
@@ -295,26 +236,24 @@ module _ (program : Program) (super : Words) (agrees : Agrees program)
                 finished,
           )))
 
-      marked_done_at : (v : ℤ) → owes.end ≡ Halted v
-          → IsDone pool (suc s.done) (heap_end heap effects) v one → Answered
-      marked_done_at v ends seen =
-          let has : HasHalted program
-          (outcome_with program s.pool owed.tx owed.args its_own.logged) v (heap_end heap effects) =
-          run_halted true program s.pool owed heap owes.end effects its_own v ends in
+      done_at : (v : ℤ) → owes.end ≡ Halted v → IsDone pool (suc s.done) (heap_end h es) v one
+          → Answered
+      done_at v ends seen =
+          let has : HasHalted program (outcome_with program s.pool owed.tx owed.args own.logged) v
+          (heap_end h es) = run_halted marked program s.pool owed h owes.end es own v ends in
           let found : SourceState = done_with has.pool v (Down None) s in
-          rested found (heap_end heap effects)
+          rested found (heap_end h es)
           (record { headers = has.headers; pool = has.holds; words = has.words })
           (record { good = seen.good; last_is = seen.last_is }) refl
           (finished_as found seen.seal_is seen.good.done
-          (its_own.logged, Done has.pool v, record { logs = its_own.logs; is = has.is }, refl))
+          (own.logged, Done has.pool v, record { logs = own.logs; is = has.is }, refl))
 
-      undone_at : (kind : TrapKind) → owes.end ≡ Trapped kind
-          → IsDone pool (suc s.done) heap s.last one → Answered
-      undone_at kind ends seen =
-          let traps = run_trapped true program s.pool owed heap owes.end effects its_own kind ends
-          in
+      undone_at : (kind : TrapKind) → owes.end ≡ Trapped kind → marked ≡ true
+          → IsDone pool (suc s.done) h s.last one → Answered
+      undone_at kind ends is_marked seen =
+          let traps = run_trapped marked program s.pool owed h owes.end es own kind ends in
           let found : SourceState = undone_as (Down None) s in
-          rested found heap
+          rested found h
           (record {
             headers = owes.holds.headers;
             pool = owes.holds.pool;
@@ -322,47 +261,51 @@ module _ (program : Program) (super : Words) (agrees : Agrees program)
           })
           (record { good = seen.good; last_is = seen.last_is }) refl
           (finished_as found seen.seal_is seen.good.done
-          (traps.0, Trap kind, traps.1, (refl, refl)))
+          (traps.0, Trap kind, traps.1, (is_marked, refl)))
 
-      owed_at : IsOwed pool call heap one → KeepsLast owes.end s.last one → Answered
-      owed_at sealed kept =
+      lost_at : (kind : TrapKind) → owes.end ≡ Trapped kind → marked ≡ false
+          → Lost pool.sizes (trap_number kind) one → Answered
+      lost_at kind ends unmarked lost =
+          from_mark kind
+          (subst (λ (x : Standing). IsMarked x program s kind) (sym standing)
+          (subst (λ (x : Bool). MarksAs x program s owed kind) (sym mark)
+          (unmarked, run_trapped marked program s.pool owed h owes.end es own kind ends)))
+          lost
+
+      trapped_at : (m : Bool) → marked ≡ m → (kind : TrapKind) → owes.end ≡ Trapped kind
+          → IsEnd pool call h (heap_end h es) (result_of (policy_of m) s.last (Trapped kind)) one
+          → Answered
+      trapped_at true is kind ends seen = undone_at kind ends is seen
+      trapped_at false is kind ends lost = lost_at kind ends is lost
+
+      at_end : (x : End) → owes.end ≡ x
+          → IsEnd pool call h (heap_end h es) (result_of p s.last x) one → Answered
+      at_end (Halted v) ends seen = done_at v ends seen
+      at_end (Trapped kind) ends seen = trapped_at marked refl kind ends seen
+
+      at_cut : IsCut pool call (E p es) (W es) h (heap_end h es) s.last
+          (result_of p s.last owes.end) one → Answered
+      at_cut (inl before) = at_before h owes.holds before
+      at_cut (inr (inl sealed)) =
           let names : tx_in e ≡ owed.tx = ap tx_number (sealed.call_is 0 (omega arith)) in
-          let ma = by_owed true (owing_as program e owed.tx true
+          let its = by_owed marked (owing_as program e owed.tx marked
           (is_owed one s.done sealed.done sealed.sealed) names mark) in
-          let done = marked_redo_recovers program super agrees e s owed heap owes.end effects on
-          rest owes.holds owes.takes owes.words owes.ran mark sealed kept ma.tx_answer b k k1
-          ma.redone in (
+          let done = redo_recovers marked program super agrees e s owed h owes.end es on rest
+          owes.holds owes.takes owes.words owes.ran mark sealed its.tx_answer b k k1
+          its.recovered in (
             done.0,
             powers_of program s waiting done.0 one a sealed.mark
                 (finds_as waiting (inr (inr (sealed.sealed, sealed.done, refl))))
                 (subst (λ (x : Bool). RedoesBy x program owed waiting one a done.0) (sym mark)
-                (subst (λ (x : Answer). RedoesBy true program owed waiting one x done.0)
-                (sym ma.answer) done.1)),
-            subst (λ (x : Mode). Holds program super x b done.0) (sym ma.mode) done.2,
+                (subst (λ (x : Answer). RedoesBy marked program owed waiting one x done.0)
+                (sym its.answer) done.1)),
+            subst (λ (x : Mode). Holds program super x b done.0) (sym its.mode) done.2,
           )
+      at_cut (inr (inr ended)) = at_end owes.end refl ended
 
-      at_marked_cut : (x : End) → owes.end ≡ x
-          → IsMarkedCut pool call heap (heap_end heap effects) s.last x one → Answered
-      at_marked_cut (Halted v) ends (inl before) = at_before heap owes.holds before
-      at_marked_cut (Halted v) ends (inr (inl sealed)) =
-          owed_at (any_last pool call heap _ one sealed)
-          (subst (λ (y : End). KeepsLast y s.last one) (sym ends) tt)
-      at_marked_cut (Halted v) ends (inr (inr seen)) = marked_done_at v ends seen
-      at_marked_cut (Trapped kind) ends (inl before) = at_before heap owes.holds before
-      at_marked_cut (Trapped kind) ends (inr (inl still)) =
-          owed_at (any_last pool call heap _ one still)
-          (subst (λ (y : End). KeepsLast y s.last one) (sym ends) still.last_is)
-      at_marked_cut (Trapped kind) ends (inr (inr seen)) = undone_at kind ends seen
-
-      from_marked : Answered
-      from_marked = at_marked_cut owes.end refl
-          (at_view (IsMarkedCut pool call heap (heap_end heap effects) s.last owes.end) e.cache
-          owes.left)
-
-    from_one : (marked : Bool) → rolls_back_of program owed.tx ≡ marked
-        → OwesBy marked program super owed e s → Answered
-    from_one false mark owes = from_unmarked mark owes
-    from_one true mark owes = from_marked mark owes
+      from_one : Answered
+      from_one = at_cut (at_view (IsCut pool call (E p es) (W es) h (heap_end h es) s.last
+          (result_of p s.last owes.end)) e.cache owes.left)
 
   at_standing : (st : Standing) → s.standing ≡ st → HeldAs st program super e s → Answered
   at_standing Ready standing held =
@@ -396,7 +339,7 @@ module _ (program : Program) (super : Words) (choice : Choice) (d : Device) (s :
 
   left_owed : (owed : Pending) (marked : Bool) → OwesBy marked program super owed d s
       → OwesBy marked program super owed (powered choice d) s
-  left_owed owed false owes = record {
+  left_owed owed marked owes = record {
     heap = owes.heap;
     holds = owes.holds;
     takes = owes.takes;
@@ -407,22 +350,8 @@ module _ (program : Program) (super : Words) (choice : Choice) (d : Device) (s :
     left =
         left_images
         (IsCut (pool_with program.image super) (call_of s.done owed.tx owed.args)
-        (E owes.effects) (W owes.effects) owes.heap (heap_end owes.heap owes.effects) s.last
-        (result_of owes.end))
-        owes.left;
-  }
-  left_owed owed true owes = record {
-    heap = owes.heap;
-    holds = owes.holds;
-    takes = owes.takes;
-    words = owes.words;
-    end = owes.end;
-    effects = owes.effects;
-    ran = owes.ran;
-    left =
-        left_images
-        (IsMarkedCut (pool_with program.image super) (call_of s.done owed.tx owed.args)
-        owes.heap (heap_end owes.heap owes.effects) s.last owes.end)
+        (E (policy_of marked) owes.effects) (W owes.effects) owes.heap
+        (heap_end owes.heap owes.effects) s.last (result_of (policy_of marked) s.last owes.end))
         owes.left;
   }
 

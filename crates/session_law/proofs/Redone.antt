@@ -1,10 +1,8 @@
--- A recovery of an owed transaction: after one that runs it to its value each line has one version,
--- and none stores the seal.
+-- No event of the recovery of an owed transaction stores the seal.
 use Rattle.std.proofs.Common.{◌≡◌, ℕ, zero, suc, ◌^◌, ◌<◌, ◌≤◌, List, [], ◌∷◌, ◌++◌, length, ℤ, pos}
 use Rattle.std.proofs.Common.{sym, subst, arith}
 use Rattle.cache_model.specs.Event.{CacheEvent, Store, Fence}
 use Rattle.cache_model.specs.Cache.{Words, put, Cache}
-use Rattle.cache_model.specs.Play.{play}
 use Rattle.cache_model.specs.Image.{HasOne}
 use Rattle.pool_layout.specs.declared.places.TheConstants.{SEAL}
 use Rattle.pool_layout.specs.declared.places.Place.TheVariants.{Heap}
@@ -19,14 +17,13 @@ use Rattle.clobber_log.specs.Restore.{first_events}
 use Rattle.args_log.specs.Retire.{retire_events, mark_events}
 use Rattle.pm_machine.specs.declared.effect.Effect.{Effect}
 use Rattle.pm_machine.specs.declared.effect.End.{End}
-use Rattle.pm_machine.specs.declared.effect.End.TheVariants.{Halted}
+use Rattle.pm_machine.specs.declared.records.Policy.{Policy}
 use Rattle.pm_machine.specs.declared.image.Image.{Image}
-use Rattle.pm_machine.specs.Machine.{Finished, mrun, start}
+use Rattle.pm_machine.specs.Machine.{Finished}
+use Rattle.pm_machine.specs.Logging.{tx_run}
 use Rattle.crash_law.specs.Pools.{Owed}
 use Rattle.crash_law.specs.Due as crash
-use Rattle.crash_law.specs.Law.{KeepsLast, Retires, IsAtRest}
-use Rattle.run_law.proofs.Runs.{run_is}
-use Rattle.crash_law.proofs.Rest.{redo_rest}
+use Rattle.crash_law.specs.Law.{KeepsLast}
 use Rattle.run_law.specs.Seen.{trace_in, result_of, E, W}
 use Rattle.run_law.specs.Sound.{IsSoundRun}
 use Rattle.recovery.specs.Due.{due_redo}
@@ -35,8 +32,6 @@ use Rattle.cut_law.proofs.Redoes.{none_same, some_same}
 use Rattle.cut_law.proofs.Misses.{Misses, misses_append}
 use Rattle.cut_law.proofs.Backs.{misses_back, misses_fence, misses_restore, restore_same}
 use Rattle.clobber_log.specs.Restore.{back_events, fence_after}
-
--- no event of a recovery stores the seal
 
 misses_trace : (z : Sizes) (a n : ℕ) (heap : Words) (trace : List crash.Entry)
     → Misses SEAL (crash.run_events z a n heap trace)
@@ -97,36 +92,27 @@ misses_redo z a k one (suc n) result trace counted =
     ((λ e. absurd (omega arith)), tt)
     (misses_due z (suc a) k (restored (pool_of z) a one) result trace))
 
-module _ (image : Image) (super : Words) (tx : ℕ) (args : List ℤ) (c : Cache) (one : Words) (d : ℕ)
-    (h : Words) (end : End) (es : List Effect)
+-- no event of a recovery stores the seal
+pub redo_misses : (p : Policy) (image : Image) (super : Words) (tx : ℕ) (args : List ℤ) (c : Cache)
+    (one : Words) (d : ℕ) (h : Words) (last : ℤ) (end : End) (es : List Effect)
     (few : length args ≤ 22) (only : HasOne c one)
-    (owed : Owed (pool_with image super) (call_of d tx args) (E es) (W es) h
-    (KeepsLast (result_of end)) one)
-    (ran : mrun image image.parts.most h tx args ≡ Finished end es)
-    (sound : IsSoundRun end es) where
-  redo_same : (n : ℕ) → count (pool_of image.parts.sizes) owed.attempt one ≡ n
-      → (0 < n → owed.attempt < 2 ^ 62)
-      → due_redo image tx args n c
-      ≡ crash.redo_events image.parts.sizes owed.attempt (suc d) one n (result_of end) (trace_in es)
-  redo_same zero counted room = none_same image super tx args c one d h end es few only owed ran
-      sound counted
-  redo_same (suc m) counted room =
-      some_same image super tx args c one d h end es few only owed ran sound m counted
-      (room (omega arith))
-
-  pub redo_at_rest : (n : ℕ) → count (pool_of image.parts.sizes) owed.attempt one ≡ n
-      → (0 < n → owed.attempt < 2 ^ 62) → (v : ℤ) → end ≡ Halted v → IsAtRest c
-      → IsAtRest (play c (due_redo image tx args n c))
-  redo_at_rest n counted room v is rest =
-      subst (λ (events : List CacheEvent). IsAtRest (play c events))
-      (sym (redo_same n counted room))
-      (redo_rest (pool_with image super) (E es) (W es) (result_of end) (trace_in es)
-      (run_is image super image.parts.most (start image tx args) h end es tt ran sound)
-      (subst (λ (e : End). Retires (result_of e)) (sym is) tt) owed.attempt (suc d) one n c rest)
-
-  pub redo_misses : (n : ℕ) → count (pool_of image.parts.sizes) owed.attempt one ≡ n
-      → (0 < n → owed.attempt < 2 ^ 62) → count_in image.parts.sizes one ≡ n
-      → Misses SEAL (due_redo image tx args n c)
-  redo_misses n counted room valid =
-      subst (Misses SEAL) (sym (redo_same n counted room))
-      (misses_redo image.parts.sizes owed.attempt (suc d) one n (result_of end) (trace_in es) valid)
+    (owed : Owed (pool_with image super) (call_of d tx args) (E p es) (W es) h
+    (KeepsLast (result_of p last end)) one)
+    (ran : tx_run p image image.parts.most h tx args ≡ Finished end es)
+    (sound : IsSoundRun p end es)
+    (n : ℕ) → count (pool_of image.parts.sizes) owed.attempt one ≡ n
+    → (0 < n → owed.attempt < 2 ^ 62) → count_in image.parts.sizes one ≡ n
+    → Misses SEAL (due_redo p image tx args n c)
+redo_misses p image super tx args c one d h last end es few only owed ran sound zero counted room
+    valid =
+    subst (Misses SEAL)
+    (sym (none_same p image super tx args c one d h last end es few only owed ran sound counted))
+    (misses_redo image.parts.sizes owed.attempt (suc d) one 0 (result_of p last end) (trace_in es)
+    valid)
+redo_misses p image super tx args c one d h last end es few only owed ran sound (suc m) counted room
+    valid =
+    subst (Misses SEAL)
+    (sym (some_same p image super tx args c one d h last end es few only owed ran sound m counted
+    (room (omega arith))))
+    (misses_redo image.parts.sizes owed.attempt (suc d) one (suc m) (result_of p last end)
+    (trace_in es) valid)

@@ -1,5 +1,6 @@
 -- A device that is at rest with a pool, and what a power cut leaves of it.
 use Rattle.std.proofs.Common.{◌≡◌, ℕ, ◌<◌, Bool, true, false, List, ℤ, refl, sym, ap, ◌∙◌, subst}
+use Rattle.std.proofs.Common.{if◌then◌else◌, nat_lt}
 use Rattle.cache_model.specs.Cache.{Words, view}
 use Rattle.pmem.specs.Device.{Device}
 use Rattle.pool_layout.specs.declared.places.Place.TheVariants.{Heap}
@@ -8,28 +9,32 @@ use Rattle.pool_layout.specs.Places as places
 use Rattle.pool_layout.specs.Sizes.{heap_words}
 use Rattle.pool_layout.specs.Good.{Pool, Good}
 use Rattle.pool_map.specs.declared.trap.TrapKind.{TrapKind}
+use Rattle.pool_map.specs.declared.trap.TrapKind.TheVariants.{LogFull}
 use Rattle.pool_map.specs.PoolMap.{PoolMap}
 use Rattle.c_meaning.specs.Transaction.{Outcome, Done, Trap}
 use Rattle.clobber_log.specs.Logs.{count_in}
 use Rattle.pm_machine.specs.declared.effect.Effect.{Effect}
 use Rattle.pm_machine.specs.declared.effect.End.{End}
 use Rattle.pm_machine.specs.declared.effect.End.TheVariants.{Halted, Trapped}
+use Rattle.pm_machine.specs.declared.records.Policy.TheVariants.{EndPool, RollBack}
 use Rattle.pm_machine.specs.Effects.{heap_end, records_end}
-use Rattle.pm_machine.specs.Machine.{Finished, mrun}
+use Rattle.pm_machine.specs.Machine.{Finished}
+use Rattle.pm_machine.specs.Logging.{blank, takes, tx_run}
 use Rattle.pm_machine.specs.Runs.{heap_in}
 use Rattle.crash_law.specs.Pools.{IsBefore}
 use Rattle.crash_law.specs.Law.{IsAtRest}
 use Rattle.run_law.specs.Sound.{IsSoundRun}
 use Rattle.cut_law.specs.Law.{pool_with}
-use Rattle.abort_law.specs.Cuts.{IsTidyRun}
 use Rattle.cnvm_session.specs.declared.program.Program.{Program}
+use Rattle.cnvm_session.specs.Marks.{policy_of}
 use Rattle.cnvm_session.specs.Pool.{sizes_of}
-use Rattle.session_law.specs.Source.{LogsBy, outcome_with, ComesBy, source_pool}
+use Rattle.session_law.specs.Source.{LogsBy, means, outcome_with, ComesBy, source_pool}
 use Rattle.session_law.specs.Source.{HasSourceHeaders}
 use Rattle.session_law.specs.Words.{HasPoolWords}
 use Rattle.session_law.specs.Agrees.{Matches, RunsAs}
 use Rattle.session_law.specs.State.{Pending, SourceState}
 use Rattle.session_law.specs.Holds.{HoldsPool, IsResting, OwesNone}
+use Rattle.session_law.proofs.Exact.{run_recorded}
 use Rattle.session_law.proofs.Ones.{rest_images}
 use Rattle.session_law.proofs.Heaps.{pool_same, headers_same}
 
@@ -124,47 +129,64 @@ trapped : (program : Program) (o : Outcome) (end : End) (kind : TrapKind) (h : W
 trapped program o end kind h is matches =
     trapped_of program o kind h (subst (λ (e : End). Matches program o e h) is matches)
 
--- a run that can be cut, by whether it is marked
-abbrev pub SoundBy : (marked : Bool) → End → List Effect → Type 0
-SoundBy false end es = IsSoundRun end es
-SoundBy true end es = IsTidyRun end es
+-- the policies of both kinds of transactions
+pub ends_pool : (marked : Bool) → policy_of marked ≡ EndPool → marked ≡ false
+ends_pool false is = refl
+ends_pool true is = absurd (cc)
+
+pub rolls_back : (marked : Bool) → policy_of marked ≡ RollBack → marked ≡ true
+rolls_back true is = refl
+rolls_back false is = absurd (cc)
+
+-- a run that halts has room for its records
+room_of : (program : Program) (pool : PoolMap) (tx : ℕ) (args : List ℤ) (logged : ℕ) (v : ℤ)
+    (end : End) (g : Words) → end ≡ Halted v
+    → Matches program (outcome_with program pool tx args logged) end g
+    → nat_lt (sizes_of program).records logged ≡ false
+room_of program pool tx args logged v end g is matches =
+    go (nat_lt (sizes_of program).records logged) (subst (λ (e : End).
+    Matches program (outcome_with program pool tx args logged) e g) is matches)
+  where
+    go : (b : Bool)
+        → Matches program (if b then Trap LogFull else means program pool tx args) (Halted v) g
+        → b ≡ false
+    go false room = refl
+    go true full = absurd full
 
 -- what the source says of a known run of the machine, marked or not, on this pool
 pub record Meant (marked : Bool) (program : Program) (pool : PoolMap) (owed : Pending)
     (h : Words) (end : End) (es : List Effect) : Type 0 where
-  pub sound : SoundBy marked end es
+  pub sound : IsSoundRun (policy_of marked) end es
   pub logged : ℕ
   pub logs : LogsBy marked program pool owed.tx owed.args logged
   pub matches :
       Matches program (outcome_with program pool owed.tx owed.args logged) end (heap_end h es)
   pub counted : (v : ℤ) → end ≡ Halted v → records_end 0 es ≡ logged
 
--- the same of the run with this end and these effects, on the pool that the heap holds
-pub meant_at : (marked : Bool) (program : Program) (s : SourceState) (owed : Pending) (h : Words)
-    (end e : End) (es fs : List Effect) → HoldsPool program h s → e ≡ end → fs ≡ es
-    → Meant marked program (source_pool program h) owed h e fs
-    → Meant marked program s.pool owed h end es
-meant_at marked program s owed h end e es fs holds ends effects own =
-    subst (λ (p : PoolMap). Meant marked program p owed h end es) holds.pool
-    (subst (λ (x : End). Meant marked program (source_pool program h) owed h x es) ends
-    (subst (Meant marked program (source_pool program h) owed h e) effects own))
-
-pub meant : (program : Program) (s : SourceState) (owed : Pending) (h : Words)
+-- the run with this end and these effects, on the pool that the heap holds
+pub meant : (marked : Bool) (program : Program) (s : SourceState) (owed : Pending) (h : Words)
     (end : End) (es : List Effect) → HoldsPool program h s
     → RunsAs program h owed.tx owed.args
-    → mrun program.image program.image.parts.most h owed.tx owed.args ≡ Finished end es
-    → Meant false program s.pool owed h end es
-meant program s owed h end es holds runs ran =
-    let same_end : runs.end ≡ end = let e = sym runs.ran ∙ ran in cc in
-    let same_effects : runs.effects ≡ es = let e = sym runs.ran ∙ ran in cc in
-    meant_at false program s owed h end runs.end es runs.effects holds same_end same_effects
-    (record {
-      sound = runs.sound;
-      logged = runs.logged;
-      logs = runs.logs;
-      matches = runs.matches;
-      counted = runs.counted;
-    })
+    → tx_run (policy_of marked) program.image program.image.parts.most h owed.tx owed.args
+    ≡ Finished end es
+    → Meant marked program s.pool owed h end es
+meant marked program s owed h end es holds runs ran =
+    let pool : PoolMap = source_pool program h in
+    let own = run_recorded marked program h owed.tx owed.args runs in
+    let same_end : own.end ≡ end = let e = sym own.ran ∙ ran in cc in
+    let same_effects : own.effects ≡ es = let e = sym own.ran ∙ ran in cc in
+    let logged : ℕ = takes (blank (policy_of marked)) runs.effects in
+    let here : Meant marked program pool owed h own.end own.effects = record {
+      sound = own.sound;
+      logged = logged;
+      logs = runs.logs marked;
+      matches = own.matches;
+      counted = λ v is. own.counted (room_of program pool owed.tx owed.args logged v own.end
+          (heap_end h own.effects) is own.matches);
+    } in
+    subst (λ (p : PoolMap). Meant marked program p owed h end es) holds.pool
+    (subst (λ (x : End). Meant marked program pool owed h x es) same_end
+    (subst (Meant marked program pool owed h own.end) same_effects here))
 
 module _ (marked : Bool) (program : Program) (pool : PoolMap) (owed : Pending) (h : Words)
     (end : End) (es : List Effect) (own : Meant marked program pool owed h end es) where

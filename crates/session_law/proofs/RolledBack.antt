@@ -2,6 +2,7 @@
 use Rattle.std.proofs.Common.{◌≡◌, inl, inr, ℕ, suc, ◌==◌, ◌&&◌, Bool, true, false, List, length}
 use Rattle.std.proofs.Common.{Option, Some, None, ℤ, refl, sym, ap, ◌∙◌, subst, arith}
 use Rattle.std.proofs.lemmas.Bool.{eqb-true}
+use Rattle.cache_model.specs.Event.{CacheEvent}
 use Rattle.cache_model.specs.Cache.{Words, view}
 use Rattle.cache_model.specs.Collapse.{bad}
 use Rattle.cache_model.specs.declared.choice.Choice.{Choice}
@@ -12,88 +13,69 @@ use Rattle.pool_map.specs.declared.trap.TrapKind.{TrapKind}
 use Rattle.args_log.specs.Pending.{tx_number}
 use Rattle.pm_machine.specs.declared.effect.End.{End}
 use Rattle.pm_machine.specs.declared.effect.End.TheVariants.{Halted, Trapped}
+use Rattle.pm_machine.specs.declared.records.Policy.{Policy}
+use Rattle.pm_machine.specs.declared.records.Policy.TheVariants.{EndPool, RollBack}
 use Rattle.pm_machine.specs.Effects.{heap_end}
 use Rattle.pm_machine.specs.Runs.{heap_in}
 use Rattle.crash_law.specs.Pools.{Call}
+use Rattle.crash_law.specs.Law.{IsCut, IsEnd}
+use Rattle.run_law.specs.Seen.{result_of, E, W}
 use Rattle.tx_run.specs.Standing.{is_number}
-use Rattle.recovery.specs.Recovered.{tx_in}
+use Rattle.tx_run.specs.Called.{Called}
+use Rattle.recovery.specs.Recovered.{Cleaned, IsRecovered, numbers_out, tx_in}
 use Rattle.recovery.specs.declared.answer.RecoverAnswer.{RecoverAnswer}
 use Rattle.recovery.specs.declared.answer.RecoverAnswer.TheVariants as recovered
 use Rattle.tx_run.specs.declared.answer.CallAnswer.{CallAnswer}
 use Rattle.tx_run.specs.declared.answer.CallAnswer.TheVariants as called
 use Rattle.cut_law.specs.Law.{call_of, pool_with}
-use Rattle.abort_law.specs.Owing.{IsOwed}
-use Rattle.abort_law.proofs.Owing.{any_last}
-use Rattle.abort_mode.specs.declared.answer.AbortAnswer.{AbortAnswer}
-use Rattle.abort_mode.specs.declared.answer.AbortAnswer.TheVariants as aborted
-use Rattle.abort_mode.specs.Answers.{AbortCalled}
-use Rattle.abort_law.specs.Cuts.{IsMarkedCut}
 use Rattle.cnvm_session.specs.declared.mode.Mode.{Mode}
 use Rattle.cnvm_session.specs.declared.mode.Mode.TheVariants as mode
 use Rattle.cnvm_session.specs.declared.answer.Answer.TheVariants as answer
 use Rattle.cnvm_session.specs.declared.program.Program.{Program}
 use Rattle.cnvm_session.specs.Commands as commanded
 use Rattle.cnvm_session.specs.Commands.{call_number, tx_parameters, fallen}
-use Rattle.cnvm_session.specs.Marks.{rolls_back_of}
-use Rattle.cnvm_session.specs.Outcomes.{answer_of_call, answer_of_marked_call, answer_of_recovery}
-use Rattle.cnvm_session.specs.Outcomes.{answer_of_marked_recovery, RecoversBy}
+use Rattle.cnvm_session.specs.Marks.{rolls_back_of, policy_of}
+use Rattle.cnvm_session.specs.Outcomes.{answer_of_call, answer_of_recovery, RecoversBy}
 use Rattle.cnvm_session.specs.Outcomes as outcomes
 use Rattle.cnvm_session.specs.Pool.{sizes_of}
 use Rattle.session_law.specs.Words.{AreWords}
 use Rattle.session_law.specs.Agrees.{Agrees}
 use Rattle.session_law.specs.State.{Pending, Standing, Ready, Down, Unusable, SourceState}
-use Rattle.session_law.specs.Holds.{IsResting, OwesMarked, HoldsAs, Holds}
+use Rattle.session_law.specs.Holds.{IsResting, OwesBy, HoldsAs, Holds}
 use Rattle.session_law.specs.Law.{IsRolledBack}
 use Rattle.session_law.proofs.Ones.{left_rest, at_left}
 use Rattle.session_law.proofs.Reading.{numbers_small, stands_ready, stands_numbers, is_unsealed}
 use Rattle.session_law.proofs.Reading.{is_owed}
-use Rattle.session_law.proofs.MarkedCalls.{call_restores}
-use Rattle.session_law.proofs.MarkedRecoveries.{KeepsLast, marked_redo_restores}
+use Rattle.session_law.proofs.Calls.{call_restores}
+use Rattle.session_law.proofs.Recoveries.{redo_restores}
 use Rattle.session_law.proofs.Powers.{not_owing, owing_as}
 
--- the answer of a call of an unmarked transaction is never that it was aborted
-never_called : (r : CallAnswer) (kind : TrapKind) → answer.Aborted kind ≡ answer_of_call r → ⊥
-never_called (called.Done v l) kind e = absurd cc
-never_called (called.Trap trap) kind e = absurd cc
-never_called (called.Off p) kind e = absurd cc
-never_called called.Failed kind e = absurd cc
-never_called (called.Unusable trap) kind e = absurd cc
-never_called called.Numbers kind e = absurd cc
-never_called called.NoMemory kind e = absurd cc
+-- the answer of a call that was rolled back
+aborted_call : (r : CallAnswer) (kind : TrapKind) → answer.Aborted kind ≡ answer_of_call r
+    → r ≡ called.Aborted kind
+aborted_call (called.Done v l) kind e = absurd cc
+aborted_call (called.Trap trap) kind e = absurd cc
+aborted_call (called.Aborted trap) kind e =
+    let same : kind ≡ trap = cc in ap called.Aborted (sym same)
+aborted_call (called.Off p) kind e = absurd cc
+aborted_call called.Failed kind e = absurd cc
+aborted_call (called.Unusable trap) kind e = absurd cc
+aborted_call called.Numbers kind e = absurd cc
+aborted_call called.NoMemory kind e = absurd cc
 
-aborted_call : (r : AbortAnswer) (kind : TrapKind)
-    → answer.Aborted kind ≡ answer_of_marked_call r → r ≡ aborted.Aborted kind
-aborted_call (aborted.Done v l) kind e = absurd cc
-aborted_call (aborted.Aborted trap) kind e =
-    let same : kind ≡ trap = cc in ap aborted.Aborted (sym same)
-aborted_call (aborted.Off p) kind e = absurd cc
-aborted_call aborted.Failed kind e = absurd cc
-aborted_call (aborted.Unusable trap) kind e = absurd cc
-aborted_call aborted.Numbers kind e = absurd cc
-aborted_call aborted.NoMemory kind e = absurd cc
-
--- nor is that of a recovery that redoes no marked transaction
-never_recovered : (r : RecoverAnswer) (kind : TrapKind)
-    → answer.RecoveredAborted kind ≡ answer_of_recovery r → ⊥
-never_recovered recovered.Clean kind e = absurd cc
-never_recovered (recovered.Redone v l) kind e = absurd cc
-never_recovered (recovered.Trap trap) kind e = absurd cc
-never_recovered (recovered.Unusable trap) kind e = absurd cc
-never_recovered recovered.Numbers kind e = absurd cc
-never_recovered (recovered.Off p) kind e = absurd cc
-never_recovered recovered.Failed kind e = absurd cc
-never_recovered recovered.NoMemory kind e = absurd cc
-
-aborted_recovery : (r : AbortAnswer) (kind : TrapKind)
-    → answer.RecoveredAborted kind ≡ answer_of_marked_recovery r → r ≡ aborted.Aborted kind
-aborted_recovery (aborted.Done v l) kind e = absurd cc
-aborted_recovery (aborted.Aborted trap) kind e =
-    let same : kind ≡ trap = cc in ap aborted.Aborted (sym same)
-aborted_recovery (aborted.Off p) kind e = absurd cc
-aborted_recovery aborted.Failed kind e = absurd cc
-aborted_recovery (aborted.Unusable trap) kind e = absurd cc
-aborted_recovery aborted.Numbers kind e = absurd cc
-aborted_recovery aborted.NoMemory kind e = absurd cc
+-- and of a recovery
+aborted_recovery : (r : RecoverAnswer) (kind : TrapKind)
+    → answer.RecoveredAborted kind ≡ answer_of_recovery r → r ≡ recovered.Aborted kind
+aborted_recovery recovered.Clean kind e = absurd cc
+aborted_recovery (recovered.Redone v l) kind e = absurd cc
+aborted_recovery (recovered.Trap trap) kind e = absurd cc
+aborted_recovery (recovered.Aborted trap) kind e =
+    let same : kind ≡ trap = cc in ap recovered.Aborted (sym same)
+aborted_recovery (recovered.Unusable trap) kind e = absurd cc
+aborted_recovery recovered.Numbers kind e = absurd cc
+aborted_recovery (recovered.Off p) kind e = absurd cc
+aborted_recovery recovered.Failed kind e = absurd cc
+aborted_recovery recovered.NoMemory kind e = absurd cc
 
 module _ (program : Program) (super : Words) (agrees : Agrees program)
     (d b : Device) (s : SourceState) (resting : IsResting program super d s)
@@ -104,26 +86,26 @@ module _ (program : Program) (super : Words) (agrees : Agrees program)
   by_mark : (tx : ℕ) → tx_parameters program.image tx ≡ Some (length args) → (marked : Bool) →
       rolls_back_of program tx ≡ marked →
       outcomes.RunsBy marked program.image tx args d (answer.Aborted kind) n b k k1 → Restored
-  by_mark tx takes false mark is = absurd (never_called is.tx_answer kind is.answer)
-  by_mark tx takes true mark is =
+  by_mark tx takes marked mark is =
       go (is_number (view d.cache DONE) && is_number (view d.cache ATTEMPT)) refl
     where
-      rolled : is.tx_answer ≡ aborted.Aborted kind
+      rolled : is.tx_answer ≡ called.Aborted kind
       rolled = aborted_call is.tx_answer kind is.answer
 
       go : (numbers : Bool) → (is_number (view d.cache DONE) && is_number (view d.cache ATTEMPT))
           ≡ numbers → Restored
       go true numbers =
           let good = resting.before.good in
-          call_restores program super agrees d s resting tx args takes words
+          call_restores marked program super agrees d s resting tx args takes words
           (numbers_small (view d.cache) s.done good.attempt good.done good.attempt_is numbers) b
           mark kind k k1
-          (subst (λ (x : AbortAnswer). AbortCalled x program.image tx args d b k k1) rolled
+          (subst (λ (x : CallAnswer). Called x (policy_of marked) program.image tx args d b k k1)
+          rolled
           (is.called.ready resting.on (stands_ready (view d.cache) good.mark numbers)))
       go false numbers =
           let same = (is.called.numbers resting.on
           (stands_numbers (view d.cache) resting.before.good.mark numbers)).0 in
-          let clash : aborted.Numbers ≡ aborted.Aborted kind = sym same ∙ rolled in
+          let clash : called.Numbers ≡ called.Aborted kind = sym same ∙ rolled in
           absurd cc
 
   by_count : (tx count : ℕ) (same : Bool) → (count == length args) ≡ same
@@ -177,9 +159,27 @@ call_rolled_back program super name args m n d b s kind k k1 agrees words holds 
     in_mode program super agrees name args words m n d b s kind k k1 h m h
     (λ is. at_rest program super agrees name args words m n d b s kind k k1 h s.standing holds is)
 
+-- an image in which nothing is owed isn't recovered so
+module _ (program : Program) (e b : Device) (r : RecoverAnswer) (k k1 : ℕ) (on : e.on ≡ true)
+    (kind : TrapKind) (rolled : r ≡ recovered.Aborted kind) where
+  never_clean : (es : List CacheEvent) → Cleaned r e es b → ⊥
+  never_clean es clean = subst (λ (x : RecoverAnswer). Cleaned x e es b) rolled clean
+
+  not_good : (p : Policy) (pool : Pool) (d : ℕ) (h : Words) → Good pool d h (view e.cache)
+      → IsRecovered r p program.image e b k k1 → ⊥
+  not_good p pool d h good is = go (numbers_out program.image e) refl
+    where
+      go : (out : Bool) → numbers_out program.image e ≡ out → ⊥
+      go true out =
+          let clash : recovered.Numbers ≡ recovered.Aborted kind =
+          sym (is.numbers on good.mark out).0 ∙ rolled in
+          absurd cc
+      go false in_range = never_clean _
+          (is.clean on good.mark in_range (is_unsealed (view e.cache) d good.done good.unsealed))
+
 module _ (program : Program) (super : Words) (agrees : Agrees program) (choice : Choice)
     (owed : Pending) (m n : Mode) (d b : Device) (s : SourceState) (kind : TrapKind) (k k1 : ℕ)
-    (mark : rolls_back_of program owed.tx ≡ true) (owes : OwesMarked program super owed d s) where
+    (mark : rolls_back_of program owed.tx ≡ true) (owes : OwesBy true program super owed d s) where
   abbrev e : Device
   e = powered choice d
 
@@ -202,36 +202,33 @@ module _ (program : Program) (super : Words) (agrees : Agrees program) (choice :
   Recovered = outcomes.Recovers program e (answer.RecoveredAborted kind) n b k k1
 
   -- an image that isn't sealed
-  not_good : (done : ℕ) (h : Words) → Good pool done h one → Recovered → ⊥
-  not_good done h good is =
+  unsealed : (done : ℕ) (h : Words) → Good pool done h one → Recovered → ⊥
+  unsealed done h good is =
       let un : Recovers false = subst Recovers
       (not_owing program e (is_unsealed one done good.done good.unsealed)) is in
-      never_recovered un.tx_answer kind un.answer
+      not_good program e b un.tx_answer k k1 refl kind
+      (aborted_recovery un.tx_answer kind un.answer) EndPool pool done h good un.recovered
 
-  owed_at : IsOwed pool call owes.heap one → KeepsLast owes.end s.last one → Recovered → Undone
-  owed_at sealed kept is =
+  ended : (x : End)
+      → IsEnd pool call owes.heap (heap_end owes.heap owes.effects) (result_of RollBack s.last x)
+      one → Recovered → Undone
+  ended (Halted v) seen is =
+      absurd (unsealed (suc s.done) (heap_end owes.heap owes.effects) seen.good is)
+  ended (Trapped trap) seen is = absurd (unsealed (suc s.done) owes.heap seen.good is)
+
+  at_cut : IsCut pool call (E RollBack owes.effects) (W owes.effects) owes.heap
+      (heap_end owes.heap owes.effects) s.last (result_of RollBack s.last owes.end) one
+      → Recovered → Undone
+  at_cut (inl before) is = absurd (unsealed s.done owes.heap before.good is)
+  at_cut (inr (inl sealed)) is =
       let names : tx_in e ≡ owed.tx = ap tx_number (sealed.call_is 0 (omega arith)) in
-      let ma : Recovers true = subst Recovers (owing_as program e owed.tx true
+      let its : Recovers true = subst Recovers (owing_as program e owed.tx true
       (is_owed one s.done sealed.done sealed.sealed) names mark) is in
-      marked_redo_restores program super agrees e s owed owes.heap owes.end owes.effects refl
+      redo_restores true program super agrees e s owed owes.heap owes.end owes.effects refl
       (left_rest d.cache choice.rest choice.picks) owes.holds owes.takes owes.words owes.ran mark
-      sealed kept kind ma.tx_answer b k k1 (aborted_recovery ma.tx_answer kind ma.answer) ma.redone
-
-  at_cut : (x : End) → owes.end ≡ x
-      → IsMarkedCut pool call owes.heap (heap_end owes.heap owes.effects) s.last x one → Recovered
-      → Undone
-  at_cut (Halted v) ends (inl before) is = absurd (not_good s.done owes.heap before.good is)
-  at_cut (Halted v) ends (inr (inl sealed)) is =
-      owed_at (any_last pool call owes.heap _ one sealed)
-      (subst (λ (y : End). KeepsLast y s.last one) (sym ends) tt) is
-  at_cut (Halted v) ends (inr (inr seen)) is =
-      absurd (not_good (suc s.done) (heap_end owes.heap owes.effects) seen.good is)
-  at_cut (Trapped trap) ends (inl before) is = absurd (not_good s.done owes.heap before.good is)
-  at_cut (Trapped trap) ends (inr (inl still)) is =
-      owed_at (any_last pool call owes.heap _ one still)
-      (subst (λ (y : End). KeepsLast y s.last one) (sym ends) still.last_is) is
-  at_cut (Trapped trap) ends (inr (inr seen)) is =
-      absurd (not_good (suc s.done) owes.heap seen.good is)
+      sealed kind its.tx_answer b k k1 (aborted_recovery its.tx_answer kind its.answer)
+      its.recovered
+  at_cut (inr (inr seen)) is = ended owes.end seen is
 
   by_picks : (first pick : Option ℕ) → fallen 0 choice.picks ≡ first
       → bad (memory_of d) choice.picks ≡ pick
@@ -239,13 +236,14 @@ module _ (program : Program) (super : Words) (agrees : Agrees program) (choice :
   by_picks (Some line) pick falls is powers = let e = (powers.0 line falls).0 in absurd cc
   by_picks None (Some line) rises is powers = let e = (powers.1 line rises is).0 in absurd cc
   by_picks None None rises fits powers =
-      at_cut owes.end refl
-      (at_left (IsMarkedCut pool call owes.heap (heap_end owes.heap owes.effects) s.last owes.end)
-      d.cache choice.rest choice.picks owes.left) (powers.2 rises fits)
+      at_cut
+      (at_left (IsCut pool call (E RollBack owes.effects) (W owes.effects) owes.heap
+      (heap_end owes.heap owes.effects) s.last (result_of RollBack s.last owes.end)) d.cache
+      choice.rest choice.picks owes.left) (powers.2 rises fits)
 
 pub power_rolled_back : (program : Program) (super : Words) (choice : Choice) (owed : Pending)
     (m n : Mode) (d b : Device) (s : SourceState) (kind : TrapKind) (k k1 : ℕ) → Agrees program
-    → rolls_back_of program owed.tx ≡ true → (owes : OwesMarked program super owed d s)
+    → rolls_back_of program owed.tx ≡ true → (owes : OwesBy true program super owed d s)
     → commanded.Powers program choice m d (answer.RecoveredAborted kind) n b k k1
     → IsRolledBack program owes.heap s.last b
 power_rolled_back program super choice owed m n d b s kind k k1 agrees mark owes powers =

@@ -1,8 +1,7 @@
 -- A program's image agrees with its source if, from every heap with valid headers, the run of each
--- transaction is sound and ends as the source says on the heap's pool, or with a full log, exactly
--- if it has more logged stores than the log has records. Each compiled program agrees with its
--- source.
-use Rattle.std.specs.Prelude.{ℕ, ◌^◌, ◌<◌, ◌≤◌, ◌≡◌, List, [], length, Some, ℤ, nat_lt, false}
+-- transaction without its log is sound, ends as the source says on the heap's pool, and takes as many
+-- records as the source's stores ask for. Each compiled program agrees with its source.
+use Rattle.std.specs.Prelude.{ℕ, ◌^◌, ◌<◌, ◌≤◌, ◌≡◌, List, Bool, length, Some, ℤ}
 use Rattle.cache_model.specs.Cache.{Words}
 use Rattle.pool_map.specs.PoolFits.{words_of}
 use Rattle.c_types.specs.Shapes.{shapes_of}
@@ -10,16 +9,18 @@ use Rattle.c_meaning.specs.Transaction.{Outcome, Done, Trap}
 use Rattle.pm_machine.specs.declared.effect.Effect.{Effect}
 use Rattle.pm_machine.specs.declared.effect.End.{End}
 use Rattle.pm_machine.specs.declared.effect.End.TheVariants.{Halted, Trapped}
-use Rattle.pm_machine.specs.Effects.{heap_end, records_end}
+use Rattle.pm_machine.specs.declared.records.Policy.TheVariants.{EndPool}
+use Rattle.pm_machine.specs.Effects.{heap_end}
 use Rattle.pm_machine.specs.Machine.{Finished, mrun}
+use Rattle.pm_machine.specs.Logging.{blank, takes}
 use Rattle.run_law.specs.Sound.{IsSoundRun}
 use Rattle.cnvm_session.specs.declared.program.Program.{Program}
 use Rattle.cnvm_session.specs.Commands.{tx_parameters}
+use Rattle.cnvm_session.specs.Marks.{policy_of}
 use Rattle.cnvm_session.specs.Pool.{sizes_of}
 use Rattle.session_law.specs.Words.{AreWords, HasPoolWords}
-use Rattle.abort_law.specs.Records.{records_marked}
-use Rattle.session_law.specs.Source.{source_parameters, LogsStores, LogsFirst}
-use Rattle.session_law.specs.Source.{outcome_with, source_pool, HasSourceHeaders}
+use Rattle.session_law.specs.Source.{source_parameters, means, LogsBy, source_pool}
+use Rattle.session_law.specs.Source.{HasSourceHeaders}
 
 -- a run ends as the outcome says: with its value, on a heap that holds its pool, or with its trap
 abbrev pub Matches : Program → Outcome → End → Words → Type 0
@@ -29,25 +30,17 @@ Matches program (Done pool value) (Trapped k) h = ⊥
 Matches program (Trap trap) (Halted v) h = ⊥
 Matches program (Trap trap) (Trapped k) h = k ≡ trap
 
--- The run of a transaction from a heap. If it ends with a value, it writes one log record for each
--- of its logged stores. With a record before the first store to each heap word too, it writes as
--- many as a marked transaction logs, however it ends, unless its log is full.
+-- The run of a transaction from a heap, without its log: it ends as the source says. With its log it
+-- takes this number of records, marked or not, where the log has room for them.
 pub record RunsAs (program : Program) (h : Words) (tx : ℕ) (args : List ℤ) : Type 0 where
   pub end : End
   pub effects : List Effect
   pub ran : mrun program.image program.image.parts.most h tx args ≡ Finished end effects
-  pub sound : IsSoundRun end effects
-  pub logged : ℕ
-  pub logs : LogsStores program (source_pool program h) tx args logged
-  pub matches :
-      Matches program (outcome_with program (source_pool program h) tx args logged) end
+  pub sound : IsSoundRun EndPool end effects
+  pub matches : Matches program (means program (source_pool program h) tx args) end
       (heap_end h effects)
-  pub counted : (value : ℤ) → end ≡ Halted value → records_end 0 effects ≡ logged
-  pub firsts : ℕ
-  pub logs_firsts : LogsFirst program (source_pool program h) tx args firsts
-  pub counted_firsts : nat_lt (sizes_of program).records logged ≡ false
-      → records_marked [] effects ≡ firsts
-  pub at_least : logged ≤ firsts
+  pub logs : (marked : Bool) → LogsBy marked program (source_pool program h) tx args
+      (takes (blank (policy_of marked)) effects)
 
 -- The root has as many words as the source's root struct. The image has the transactions of the
 -- source, each with as many parameters. A transaction's number is below 2^63 and it has at most 22

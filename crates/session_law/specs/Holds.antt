@@ -1,5 +1,5 @@
 -- What a session's device holds, by what the source knows of the session.
-use Rattle.std.specs.Prelude.{◌≡◌, Bool, List, length, Some, None, true, false}
+use Rattle.std.specs.Prelude.{◌≡◌, Bool, true, List, length, Some, None}
 use Rattle.cache_model.specs.Cache.{view, Words}
 use Rattle.cache_model.specs.Image.{Images}
 use Rattle.pmem.specs.Device.{Device}
@@ -8,20 +8,19 @@ use Rattle.clobber_log.specs.Logs.{count_in}
 use Rattle.pm_machine.specs.declared.effect.Effect.{Effect}
 use Rattle.pm_machine.specs.declared.effect.End.{End}
 use Rattle.pm_machine.specs.Effects.{heap_end}
-use Rattle.pm_machine.specs.Machine.{Finished, mrun}
+use Rattle.pm_machine.specs.Machine.{Finished}
+use Rattle.pm_machine.specs.Logging.{tx_run}
 use Rattle.pm_machine.specs.Runs.{heap_in}
 use Rattle.pool_layout.specs.Good.{Lost}
 use Rattle.crash_law.specs.Pools.{IsBefore}
 use Rattle.crash_law.specs.Law.{IsAtRest, IsCut}
 use Rattle.run_law.specs.Seen.{result_of, E, W}
 use Rattle.cut_law.specs.Law.{call_of, pool_with}
-use Rattle.abort_law.specs.Machine.{mrun_marked}
-use Rattle.abort_law.specs.Cuts.{IsMarkedCut}
 use Rattle.cnvm_session.specs.declared.mode.Mode.{Mode}
 use Rattle.cnvm_session.specs.declared.mode.Mode.TheVariants as mode
 use Rattle.cnvm_session.specs.declared.program.Program.{Program}
 use Rattle.cnvm_session.specs.Commands.{tx_parameters}
-use Rattle.cnvm_session.specs.Marks.{rolls_back_of}
+use Rattle.cnvm_session.specs.Marks.{rolls_back_of, policy_of}
 use Rattle.cnvm_session.specs.Pool.{sizes_of}
 use Rattle.session_law.specs.Source.{source_pool, HasSourceHeaders}
 use Rattle.session_law.specs.Words.{AreWords, HasPoolWords}
@@ -52,9 +51,9 @@ pub record OwesNone (program : Program) (super : Words) (d : Device) (s : Source
   pub holds : HoldsPool program heap s
   pub left : Images (IsBefore (pool_with program.image super) s.done heap s.last) d.cache
 
--- A transaction without the mark is owed: whatever a power cut leaves is the pool before it, or
--- owes it, or is its end. The machine's run of it starts on the heap of the last moment at rest.
-pub record OwesOne (program : Program) (super : Words) (owed : Pending) (d : Device)
+-- A transaction is owed: whatever a power cut leaves is the pool before it, or owes it, or is its
+-- end. The machine's run of it, with its log, starts on the heap of the last moment at rest.
+pub record OwesBy (marked : Bool) (program : Program) (super : Words) (owed : Pending) (d : Device)
     (s : SourceState) : Type 0 where
   pub heap : Words
   pub holds : HoldsPool program heap s
@@ -62,30 +61,11 @@ pub record OwesOne (program : Program) (super : Words) (owed : Pending) (d : Dev
   pub words : AreWords owed.args
   pub end : End
   pub effects : List Effect
-  pub ran : mrun program.image program.image.parts.most heap owed.tx owed.args
+  pub ran : tx_run (policy_of marked) program.image program.image.parts.most heap owed.tx owed.args
       ≡ Finished end effects
   pub left : Images (IsCut (pool_with program.image super) (call_of s.done owed.tx owed.args)
-      (E effects) (W effects) heap (heap_end heap effects) s.last (result_of end)) d.cache
-
--- The same of a marked transaction: the run is the one with a record before each first store. Its
--- end is that of the transaction done, or that of it rolled back.
-pub record OwesMarked (program : Program) (super : Words) (owed : Pending) (d : Device)
-    (s : SourceState) : Type 0 where
-  pub heap : Words
-  pub holds : HoldsPool program heap s
-  pub takes : tx_parameters program.image owed.tx ≡ Some (length owed.args)
-  pub words : AreWords owed.args
-  pub end : End
-  pub effects : List Effect
-  pub ran : mrun_marked program.image program.image.parts.most heap owed.tx owed.args
-      ≡ Finished end effects
-  pub left : Images (IsMarkedCut (pool_with program.image super)
-      (call_of s.done owed.tx owed.args) heap (heap_end heap effects) s.last end) d.cache
-
--- by whether the transaction is marked
-abbrev pub OwesBy : (marked : Bool) → Program → Words → Pending → Device → SourceState → Type 0
-OwesBy false program super owed d s = OwesOne program super owed d s
-OwesBy true program super owed d s = OwesMarked program super owed d s
+      (E (policy_of marked) effects) (W effects) heap (heap_end heap effects) s.last
+      (result_of (policy_of marked) s.last end)) d.cache
 
 abbrev pub HoldsAs : Standing → Program → Words → Mode → Device → SourceState → Type 0
 HoldsAs Ready program super m d s = (m ≡ mode.Ready) × IsResting program super d s

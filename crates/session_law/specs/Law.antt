@@ -21,10 +21,10 @@ use Rattle.clobber_log.specs.Logs.{count_in}
 use Rattle.pm_machine.specs.declared.effect.Effect.{Effect}
 use Rattle.pm_machine.specs.declared.effect.End.{End}
 use Rattle.pm_machine.specs.Effects.{heap_end, records_end}
-use Rattle.pm_machine.specs.Machine.{Finished, mrun}
+use Rattle.pm_machine.specs.Machine.{Finished}
+use Rattle.pm_machine.specs.Logging.{tx_run}
 use Rattle.pm_machine.specs.Runs.{heap_in}
-use Rattle.abort_law.specs.Machine.{mrun_marked}
-use Rattle.abort_law.specs.Steps.{marked_steps}
+use Rattle.cut_law.specs.Steps.{run_steps}
 use Rattle.cnvm_script.specs.declared.command.Command.{Command}
 use Rattle.cnvm_script.specs.declared.command.Command.TheVariants as command
 use Rattle.cnvm_script.specs.Commands.{script_meaning}
@@ -34,7 +34,7 @@ use Rattle.cnvm_session.specs.declared.mode.Mode.{Mode}
 use Rattle.cnvm_session.specs.declared.mode.Mode.TheVariants.{Ready}
 use Rattle.cnvm_session.specs.declared.program.Program.{Program}
 use Rattle.cnvm_session.specs.Commands.{call_number, tx_parameters, Commanded}
-use Rattle.cnvm_session.specs.Marks.{rolls_back_of}
+use Rattle.cnvm_session.specs.Marks.{rolls_back_of, policy_of}
 use Rattle.cnvm_session.specs.Steps.{most_of_program}
 use Rattle.cnvm_session.specs.Laws.{IsRefused}
 use Rattle.cnvm_session.specs.Outcomes.{Opens}
@@ -42,8 +42,7 @@ use Rattle.cnvm_session.specs.Pool.{sizes_of, wanted_of}
 use Rattle.args_log.specs.Created.{creation_events}
 use Rattle.c_meaning.specs.Transaction.{Outcome, Trap}
 use Rattle.ir.specs.declared.function.IrFunction.{IrFunction}
-use Rattle.ir.specs.declared.site.Site.{Site}
-use Rattle.session_law.specs.Logged.{AreLogged, FillsLog}
+use Rattle.session_law.specs.Logged.{StoreAt, TakeRecords, FillsLog}
 use Rattle.session_law.specs.Source.{LogsBy, ComesBy, source_pool}
 use Rattle.session_law.specs.Words.{AreWords}
 use Rattle.session_law.specs.Agrees.{Agrees, Matches, RunsAs}
@@ -51,7 +50,7 @@ use Rattle.session_law.specs.State.{Pending, Down, SourceState, standing_as, cre
 use Rattle.session_law.specs.State as state
 use Rattle.session_law.specs.Answers.{HasSeal, IsConcluded, Runs, Redoes, Answers}
 use Rattle.session_law.specs.Opened.{opened}
-use Rattle.session_law.specs.Holds.{HoldsPool, OwesOne, OwesMarked, Holds}
+use Rattle.session_law.specs.Holds.{HoldsPool, OwesBy, Holds}
 use Rattle.session_law.specs.History.{recovered_by, LeadsTo, calls_in, answered_in, IsPart, HasDone}
 use Rattle.session_law.specs.Ran.{found_by, Moment, SessionStep, Ran, fresh_moment, OpenStep}
 
@@ -106,44 +105,47 @@ LedLaw =
     (program : Program) (p q r : PoolMap) (calls : List Pending) →
     LeadsTo program p calls q → LeadsTo program p calls r → q ≡ r
 
--- A run has more logged stores than the log has records exactly if one of them, before the run's
--- end, finds the log full.
+-- In a run more words take a record than the log has records exactly if one of its stores, before
+-- the run's end, takes one more.
 abbrev pub FullLaw : Type 0
 FullLaw =
-    (functions : List IrFunction) (sites : List Site) (n records : ℕ) →
-    AreLogged functions sites n →
-    (records < n → FillsLog functions records sites)
-    × (FillsLog functions records sites → records < n)
+    (rolls : Bool) (functions : List IrFunction) (stores : List StoreAt) (n records : ℕ) →
+    TakeRecords rolls functions [] stores n →
+    (records < n → FillsLog rolls functions [] records stores)
+    × (FillsLog rolls functions [] records stores → records < n)
 
--- The machine's run of a marked transaction ends as this outcome says. It appends this number of
--- records, unless the log has fewer.
-abbrev pub MarkedEndsAs : Program → Words → (tx : ℕ) → List ℤ → (logged : ℕ) → Outcome → Type 0
-MarkedEndsAs program h tx args logged outcome =
+-- The machine's run of a transaction, with its log, ends as this outcome says. It takes this number
+-- of records, unless the log has fewer.
+abbrev pub EndsAs : (marked : Bool) → Program → Words → (tx : ℕ) → List ℤ → (logged : ℕ) → Outcome
+    → Type 0
+EndsAs marked program h tx args logged outcome =
     (end : End) × (es : List Effect)
-    × (mrun_marked program.image program.image.parts.most h tx args ≡ Finished end es)
+    × (tx_run (policy_of marked) program.image program.image.parts.most h tx args
+    ≡ Finished end es)
     × Matches program outcome end (heap_end h es)
     × (nat_lt (sizes_of program).records logged ≡ false → records_end 0 es ≡ logged)
 
--- A marked transaction's run from a heap on which the image agrees with its source. It ends as the
--- source says on the heap's pool: with a full log exactly if the number of its logged stores, the
--- first to each heap word included, is more than the log has records. Else it appends as many.
-abbrev pub MarkedExactLaw : Type 0
-MarkedExactLaw =
-    (program : Program) (h : Words) (tx : ℕ) (args : List ℤ) (logged : ℕ) (outcome : Outcome) →
+-- A transaction's run from a heap on which the image agrees with its source ends as the source says
+-- on the heap's pool: with a full log exactly if more words take a record than the log has records.
+-- Else it takes just those.
+abbrev pub ExactLaw : Type 0
+ExactLaw =
+    (marked : Bool) (program : Program) (h : Words) (tx : ℕ) (args : List ℤ) (logged : ℕ)
+    (outcome : Outcome) →
     RunsAs program h tx args →
-    ComesBy true program (source_pool program h) tx args logged outcome →
-    MarkedEndsAs program h tx args logged outcome
+    ComesBy marked program (source_pool program h) tx args logged outcome →
+    EndsAs marked program h tx args logged outcome
 
 -- So it runs from each heap that holds the pool that the source knows: that of a device at rest,
 -- and the one on which an owed transaction began.
 abbrev pub HeldRunLaw : Type 0
 HeldRunLaw =
-    (program : Program) (h : Words) (s : SourceState) (tx : ℕ) (args : List ℤ) (logged : ℕ)
-    (outcome : Outcome) →
+    (marked : Bool) (program : Program) (h : Words) (s : SourceState) (tx : ℕ) (args : List ℤ)
+    (logged : ℕ) (outcome : Outcome) →
     Agrees program → HoldsPool program h s → AreWords args
     → tx_parameters program.image tx ≡ Some (length args)
-    → ComesBy true program s.pool tx args logged outcome
-    → MarkedEndsAs program h tx args logged outcome
+    → ComesBy marked program s.pool tx args logged outcome
+    → EndsAs marked program h tx args logged outcome
 
 -- Each answer to a command whose arguments are words is one that the source gives, and the device
 -- then holds what the source knows.
@@ -257,7 +259,7 @@ RollbackLaw =
     × ((program : Program) (super : Words) (choice : Choice) (owed : Pending) (m n : Mode)
     (d b : Device) (s : SourceState) (kind : TrapKind) (k k1 : ℕ) →
     Agrees program → rolls_back_of program owed.tx ≡ true →
-    (owes : OwesMarked program super owed d s) →
+    (owes : OwesBy true program super owed d s) →
     Commanded program (command.Power choice) m d (answer.RecoveredAborted kind) n b k k1 →
     IsRolledBack program owes.heap s.last b) × RollbackChainLaw
 
@@ -278,34 +280,23 @@ RanToEnd a = ⊥
 -- The steps of the machine's run of a transaction on a heap: one for each instruction, of which the
 -- last has no effect; and, if it is rolled back, one for each of its records.
 abbrev pub TakesBy : (marked : Bool) → Program → Words → (tx : ℕ) → List ℤ → ℕ → Type 0
-TakesBy false program h tx args n =
+TakesBy marked program h tx args n =
     (end : End) × (effects : List Effect)
-    × (mrun program.image program.image.parts.most h tx args ≡ Finished end effects)
-    × (n ≡ suc (length effects))
-TakesBy true program h tx args n =
-    (end : End) × (effects : List Effect)
-    × (mrun_marked program.image program.image.parts.most h tx args ≡ Finished end effects)
-    × (n ≡ marked_steps program.image h tx args end effects)
+    × (tx_run (policy_of marked) program.image program.image.parts.most h tx args
+    ≡ Finished end effects)
+    × (n ≡ run_steps (policy_of marked) end effects)
 
--- A recovery that redoes an unmarked transaction takes one step for each valid record and one for
--- each instruction. Redoing a marked one takes one step for each valid record too, and the steps of
--- its run (`marked_steps`).
+-- A recovery that redoes a transaction takes one step for each valid record, and the steps of its
+-- run.
 abbrev pub RecoveryStepsLaw : Type 0
 RecoveryStepsLaw =
-    ((program : Program) (super : Words) (choice : Choice) (owed : Pending) (m n : Mode)
-    (d b : Device) (s : SourceState) (a : Answer) (k k1 : ℕ) →
-    Agrees program → rolls_back_of program owed.tx ≡ false →
-    (owes : OwesOne program super owed d s) → IsRedone a
+    (marked : Bool) (program : Program) (super : Words) (choice : Choice) (owed : Pending)
+    (m n : Mode) (d b : Device) (s : SourceState) (a : Answer) (k k1 : ℕ) →
+    Agrees program → rolls_back_of program owed.tx ≡ marked →
+    (owes : OwesBy marked program super owed d s) → IsRedone a
     → Commanded program (command.Power choice) m d a n b k k1 →
     k1 ≡ k + (count_in (sizes_of program) (view (powered choice d).cache)
-    + suc (length owes.effects)))
-    × ((program : Program) (super : Words) (choice : Choice) (owed : Pending) (m n : Mode)
-    (d b : Device) (s : SourceState) (a : Answer) (k k1 : ℕ) →
-    Agrees program → rolls_back_of program owed.tx ≡ true →
-    (owes : OwesMarked program super owed d s) → IsRedone a
-    → Commanded program (command.Power choice) m d a n b k k1 →
-    k1 ≡ k + (count_in (sizes_of program) (view (powered choice d).cache)
-    + marked_steps program.image owes.heap owed.tx owed.args owes.end owes.effects))
+    + run_steps (policy_of marked) owes.end owes.effects)
 
 -- Steps of a call that runs its transaction to its end: those of the machine's run on the heap that
 -- the call finds.

@@ -1,7 +1,7 @@
 -- What the source of a program says of a transaction: its parameters, its meaning on a pool, its
--- outcome there and the number of its logged stores; and which pool a heap holds under the
+-- outcome there and the number of words that take a record; and which pool a heap holds under the
 -- program's shapes.
-use Rattle.std.specs.Prelude.{ℕ, ◌+◌, ◌*◌, ◌≡◌, if◌then◌else◌, nat_lt, Bool, true, false, List, []}
+use Rattle.std.specs.Prelude.{ℕ, ◌+◌, ◌*◌, ◌≡◌, if◌then◌else◌, nat_lt, Bool, List, []}
 use Rattle.std.specs.Prelude.{length, Option, option_map, ℤ}
 use Rattle.std.specs.Option.{option_map_or}
 use Rattle.cache_model.specs.Cache.{Words}
@@ -15,7 +15,6 @@ use Rattle.c_types.specs.Tables.{Tables, tables_of}
 use Rattle.c_types.specs.Shapes.{shapes_of}
 use Rattle.c_meaning.specs.Transaction.{Outcome, Trap, transaction, transaction_means}
 use Rattle.ir.specs.declared.function.Ir.{Ir}
-use Rattle.ir.specs.declared.site.Site.{Site}
 use Rattle.code_meaning.specs.Code.{code_start}
 use Rattle.code_meaning.specs.Deeds.{Deed, deeds}
 use Rattle.code_meaning.specs.Whole.{whole}
@@ -23,7 +22,7 @@ use Rattle.lower.specs.Program.{lowered}
 use Rattle.lower_law.specs.Law.{entry_in}
 use Rattle.cnvm_session.specs.declared.program.Program.{Program}
 use Rattle.cnvm_session.specs.Pool.{sizes_of}
-use Rattle.session_law.specs.Logged.{stored_at, AreLogged, StoreAt, stores_in, AreLoggedFirst}
+use Rattle.session_law.specs.Logged.{StoreAt, stores_in, TakeRecords}
 
 abbrev pub program_tables : Program → Tables
 program_tables program = tables_of (tree_of program.typed)
@@ -43,43 +42,28 @@ abbrev pub deeds_in : Ir → (ticks : ℕ) → PoolMap → List ℤ → (g : ℕ
 deeds_in ir ticks pool args g =
     deeds ir ((ticks + 1) * whole ir.functions) (code_start g args pool ticks)
 
--- the sites of the stores of a transaction's run, in the code of the program's tree without logs
-abbrev pub store_sites : Program → PoolMap → (tx : ℕ) → List ℤ → List Site
-store_sites program pool tx args =
-    stored_at (option_map_or (deeds_in (lowered program.typed) (sizes_of program).ticks pool args)
-    (entry_in tx (lowered program.typed).functions) [])
-
--- the number of logged stores that the transaction's run does until it ends
-abbrev pub LogsStores : Program → PoolMap → (tx : ℕ) → List ℤ → (logged : ℕ) → Type 0
-LogsStores program pool tx args logged =
-    AreLogged (lowered program.typed).functions (store_sites program pool tx args) logged
-
--- the stores of the same run, with their heap words
+-- the stores of a transaction's run, with their heap words, in the code of the program's tree
+-- without logs
 abbrev pub run_stores : Program → PoolMap → (tx : ℕ) → List ℤ → List StoreAt
 run_stores program pool tx args =
     stores_in (sizes_of program)
     (option_map_or (deeds_in (lowered program.typed) (sizes_of program).ticks pool args)
     (entry_in tx (lowered program.typed).functions) [])
 
--- the number of logged stores that the run of a marked transaction does until it ends: those at
--- logged sites, and the first to each heap word
-abbrev pub LogsFirst : Program → PoolMap → (tx : ℕ) → List ℤ → (logged : ℕ) → Type 0
-LogsFirst program pool tx args logged =
-    AreLoggedFirst (lowered program.typed).functions [] (run_stores program pool tx args) logged
+-- the number of words that take a record in the transaction's run until it ends, by whether it is
+-- marked
+abbrev pub LogsBy : (marked : Bool) → Program → PoolMap → (tx : ℕ) → List ℤ → (logged : ℕ) → Type 0
+LogsBy marked program pool tx args logged =
+    TakeRecords marked (lowered program.typed).functions [] (run_stores program pool tx args) logged
 
--- The outcome with a log of C records: a full log if there are more than C logged stores; else what
--- the source says.
+-- The outcome with a log of C records: a full log if more than C words take a record; else what the
+-- source says.
 abbrev pub outcome_with : Program → PoolMap → (tx : ℕ) → List ℤ → (logged : ℕ) → Outcome
 outcome_with program pool tx args logged =
     if nat_lt (sizes_of program).records logged then Trap LogFull else means program pool tx args
 
--- the number of logged stores, by whether the transaction is marked
-abbrev pub LogsBy : (marked : Bool) → Program → PoolMap → (tx : ℕ) → List ℤ → (logged : ℕ) → Type 0
-LogsBy false program pool tx args logged = LogsStores program pool tx args logged
-LogsBy true program pool tx args logged = LogsFirst program pool tx args logged
-
 -- What a transaction comes to on a pool, marked or not. The program, the pool and the arguments
--- determine both the number of logged stores and the outcome.
+-- determine both the number of words that take a record and the outcome.
 pub record ComesBy (marked : Bool) (program : Program) (pool : PoolMap) (tx : ℕ) (args : List ℤ)
     (logged : ℕ) (outcome : Outcome) : Type 0 where
   pub logs : LogsBy marked program pool tx args logged

@@ -10,7 +10,7 @@ ghost use Rattle.session_law.specs.Law.{SessionLaw, SealedLaw, PhaseLaw, StepsLa
 ghost use Rattle.session_law.specs.Law.{OpenedLaw, SessionRunLaw, KeptLaw, HistoryLaw, BegunLaw};
 ghost use Rattle.session_law.specs.Law.{WholeLaw, UnchangedLaw, BoundLaw, ScriptLaw, DeterminedLaw};
 ghost use Rattle.session_law.specs.Law.{FullLaw, RecoveryPhaseLaw};
-ghost use Rattle.session_law.specs.Law.{LedLaw, FullLogLaw, MarkedExactLaw, HeldRunLaw};
+ghost use Rattle.session_law.specs.Law.{LedLaw, FullLogLaw, ExactLaw, HeldRunLaw};
 ghost use Rattle.session_law.specs.Law.{RollbackLaw};
 ghost use Rattle.session_law.specs.Ends.{EndsLaw};
 
@@ -35,7 +35,7 @@ pub fn law()
     ensures full { FullLaw }
     ensures full_log { FullLogLaw }
     ensures led { LedLaw }
-    ensures marked_exact { MarkedExactLaw }
+    ensures exact { ExactLaw }
     ensures held_run { HeldRunLaw }
     ensures rollback { RollbackLaw }
     ensures ends { EndsLaw }

@@ -143,8 +143,8 @@ impl LineReader {
     }
 }
 
-#[tactic(auto, using(crate::proofs::Reading::size_here, crate::proofs::Reading::size_on, crate::proofs::Reading::size_end))]
 /// The number of bytes before the first newline, or of all if there is none.
+#[tactic(auto, using(crate::proofs::Reading::size_here, crate::proofs::Reading::size_on, crate::proofs::Reading::size_end,))]
 fn line_size(bytes: &[u8]) -> usize
     ensures { result ≡ line_size bytes.now }
 {

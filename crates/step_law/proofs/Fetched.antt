@@ -1,17 +1,18 @@
 -- What is fetched: the statement of the instruction.
-use Rattle.std.proofs.Common.{◌≡◌, ℕ, zero, suc, ◌+◌, refl, sym, ◌∙◌, ap, subst, arith, Bool, false}
+use Rattle.std.proofs.Common.{◌≡◌, ℕ, zero, suc, ◌+◌, refl, sym, ◌∙◌, ap, subst, arith}
 use Rattle.std.proofs.Common.{Option, Some, List, [], ◌∷◌, length, map, ◌<◌}
 use Rattle.std.specs.Prelude.{slice_get}
 use Rattle.cache_model.specs.Cache.{Words}
 use Rattle.pm_machine.specs.declared.op.Op.{Op}
 use Rattle.pm_machine.specs.declared.image.Image.{Image}
-use Rattle.pm_machine.specs.Machine.{State, execute, decide, fetch, fetch_in, due_store}
+use Rattle.pm_machine.specs.Machine.{State, execute, fetch, fetch_in}
+use Rattle.pm_machine.specs.Logging.{turn, turn_of}
 use Rattle.c_fragment.specs.Statement.{CFunction}
 use Rattle.c_fragment.specs.State.{CState}
-use Rattle.c_fragment.specs.Meaning.{CStep, c_does, c_step, done_in, statement_done, lacks_record}
+use Rattle.c_fragment.specs.Meaning.{CStep, c_does, c_step, done_in, statement_done}
 use Rattle.c_fragment.specs.Translation.{statement_of, statements_from, c_function}
-use Rattle.step_law.specs.Law.{IsPrintable, setting_of}
-use Rattle.step_law.specs.inside.Standing.{MirrorsState, StepsAgree}
+use Rattle.step_law.specs.Law.{IsPrintable}
+use Rattle.step_law.specs.inside.Standing.{MirrorsState, TurnsAgree}
 use Rattle.step_law.proofs.Steps.{straight, mapped}
 
 statement_at : (q : ℕ) (ops : List Op) (i : ℕ) (op : Op) → slice_get ops i ≡ Some op
@@ -33,8 +34,8 @@ found_at [] i low = absurd (omega (arith, low))
 found_at (o ∷ ops) zero low = (o, refl)
 found_at (o ∷ ops) (suc i) low = found_at ops i (omega (arith, low))
 
-module _ (image : Image) (b : Bool) (heap : Words) (ls : List ℕ) (s : State) (c : CState)
-    (code : IsPrintable image.parts.functions) (stands : MirrorsState image heap ls s c) where
+module _ (image : Image) (heap : Words) (s : State) (c : CState)
+    (code : IsPrintable image.parts.functions) (stands : MirrorsState image heap s c) where
   abbrev file : List CFunction
   file = map c_function image.parts.functions
 
@@ -44,11 +45,10 @@ module _ (image : Image) (b : Bool) (heap : Words) (ls : List ℕ) (s : State) (
 
   -- the statement of the instruction is done
   pub step_is : (op : Op) → slice_get stands.top.u.code s.top.place ≡ Some op
-      → c_step (setting_of image b) file c
-      ≡ c_does (setting_of image b) file (length stands.top.u.code) c
-      (statement_of s.top.place op)
+      → c_step image.parts.sizes file c
+      ≡ c_does image.parts.sizes file (length stands.top.u.code) c (statement_of s.top.place op)
   step_is op at =
-      let z = setting_of image b in
+      let z = image.parts.sizes in
       let u = stands.top.u in
       let found : slice_get file c.function ≡ Some (c_function u) =
       ap (λ (f : ℕ). slice_get file f) stands.top.function
@@ -63,19 +63,16 @@ module _ (image : Image) (b : Bool) (heap : Words) (ls : List ℕ) (s : State) (
       (length_same 0 u.code)
       ∙ ap (statement_done z file (length u.code) c) line
 
-  -- the next step, where no store to a word that lacks its record is due
-  pub steps_agree : ((x : ℕ) → due_store image s ≡ Some x
-      → lacks_record (setting_of image b) c x ≡ false)
-      → StepsAgree image heap ls (decide image (length ls) s heap)
-      (c_step (setting_of image b) file c)
-  steps_agree kept =
-      let z = setting_of image b in
+  -- the next step
+  pub steps_agree : TurnsAgree image heap (turn_of image c.logging s heap)
+      (c_step image.parts.sizes file c)
+  steps_agree =
+      let z = image.parts.sizes in
       let op : Op = found_here.0 in
-      let n : ℕ = length ls in
       let fetched : fetch image s ≡ Some op =
       ap (fetch_in s.top.place) stands.top.found ∙ found_here.1 in
-      subst (λ (o : Option Op). StepsAgree image heap ls (execute image heap n s o)
-      (c_step z file c)) (sym fetched)
-      (subst (λ (x : CStep). StepsAgree image heap ls (execute image heap n s (Some op)) x)
-      (sym (step_is op found_here.1))
-      (straight image b heap ls s c code stands kept op found_here.1))
+      subst (λ (o : Option Op). TurnsAgree image heap
+      (turn z.records c.logging (execute image heap s o)) (c_step z file c)) (sym fetched)
+      (subst (λ (x : CStep). TurnsAgree image heap
+      (turn z.records c.logging (execute image heap s (Some op))) x) (sym (step_is op found_here.1))
+      (straight image heap s c code stands op found_here.1))

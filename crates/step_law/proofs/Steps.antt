@@ -32,18 +32,18 @@ use Rattle.pm_machine.specs.Find.{least}
 use Rattle.pm_machine.specs.Checked.{op_is_there, is_good_op, is_end, takes_arguments}
 use Rattle.pm_machine.specs.Machine as machine
 use Rattle.pm_machine.specs.Machine.{State, read_register, execute, load, store, log, target, fetch}
-use Rattle.pm_machine.specs.Machine.{frame_at, fetch_in, due_store, stored_by}
-use Rattle.c_fragment.specs.State.{Waiting, CState, Stored, Recorded, state_at, state_past}
-use Rattle.c_fragment.specs.State.{with_register, with_store, with_logged, with_tick, with_flushed}
-use Rattle.c_fragment.specs.State.{with_callee, variables_of}
-use Rattle.c_fragment.specs.Meaning.{CStep, Goes, Traps, c_does, assign, jump_to}
-use Rattle.c_fragment.specs.Meaning.{flush_first, word_recorded, lacks_record, function_entered}
-use Rattle.c_fragment.specs.Meaning.{function_left}
+use Rattle.pm_machine.specs.Machine.{frame_at, fetch_in}
+use Rattle.pm_machine.specs.Logging.{Plays, Stops, turn, unlisted, rolled, has_room, noted}
+use Rattle.pm_machine.specs.Logging.{with_record}
+use Rattle.c_fragment.specs.State.{Waiting, CState, Stored, state_at, state_past, with_register}
+use Rattle.c_fragment.specs.State.{with_store, with_noted, with_tick, with_flushed, with_callee}
+use Rattle.c_fragment.specs.State.{variables_of}
+use Rattle.c_fragment.specs.Meaning.{CStep, Goes, Traps, c_does, assign, jump_to, recorded}
+use Rattle.c_fragment.specs.Meaning.{after_record, flush_first, function_entered, function_left}
 use Rattle.c_fragment.specs.Translation.{statement_of, c_function}
-use Rattle.step_law.specs.Law.{IsPrintable, setting_of}
+use Rattle.step_law.specs.Law.{IsPrintable}
 use Rattle.step_law.specs.inside.Standing.{HoldsBits, IsOpenAs, IsWaitingFor, WaitsAlike}
-use Rattle.step_law.specs.inside.Standing.{MirrorsState}
-use Rattle.step_law.specs.inside.Standing.{StepsAgree}
+use Rattle.step_law.specs.inside.Standing.{MirrorsState, TurnsAgree}
 use Rattle.step_law.proofs.Tests.{left_of, right_of, first_of}
 use Rattle.step_law.proofs.Words.{operation_same, applied_fits, add_same, word_of, word_same}
 use Rattle.step_law.proofs.Registers.{got, put_holds, begin_holds, placed_filled, values_same}
@@ -81,8 +81,22 @@ taken us f n e = by (slice_get us f) refl e
     by None found e = absurd (cc)
     by (Some v) found e = (v, found, eqb-true v.parameters n e)
 
-module _ (image : Image) (b : Bool) (heap : Words) (ls : List ℕ) (s : State) (c : CState)
-    (code : IsPrintable image.parts.functions) (stands : MirrorsState image heap ls s c) where
+-- a record that is noted changes nothing else
+noted_stands : (image : Image) (heap : Words) (s : State) (c : CState) (o : Option ℕ)
+    → MirrorsState image heap s c → MirrorsState image heap s (with_noted c o)
+noted_stands image heap s c o stands = record {
+  top = stands.top;
+  waiting = stands.waiting;
+  few = stands.few;
+  size = stands.size;
+  ticks = stands.ticks;
+  dirty = stands.dirty;
+  heap = stands.heap;
+  words = stands.words;
+}
+
+module _ (image : Image) (heap : Words) (s : State) (c : CState)
+    (code : IsPrintable image.parts.functions) (stands : MirrorsState image heap s c) where
   abbrev us : List Function
   us = image.parts.functions
 
@@ -105,8 +119,11 @@ module _ (image : Image) (b : Bool) (heap : Words) (ls : List ℕ) (s : State) (
   abbrev at : ℕ → ℤ
   at a = read_register s a
 
+  abbrev C : ℕ
+  C = image.parts.sizes.records
+
   abbrev agrees : machine.StepOutcome → CStep → Type 0
-  agrees o x = StepsAgree image heap ls o x
+  agrees o x = TurnsAgree image heap (turn C c.logging o) x
 
   pub read : (a : ℕ) → nat_lt a count ≡ true → slice_get c.registers a ≡ Some (unsigned (at a))
   read a inside = got c.registers s.top.registers a stands.top.holds (ltb-true a count inside)
@@ -130,7 +147,7 @@ module _ (image : Image) (b : Bool) (heap : Words) (ls : List ℕ) (s : State) (
   next_place = ap (λ (p : ℕ). p + 1) stands.top.place
 
   moved : (p q : ℕ) → p ≡ q → q < m
-      → MirrorsState image heap ls (machine.moved_to s q) (state_at c p)
+      → MirrorsState image heap (machine.moved_to s q) (state_at c p)
   moved p q e inside = record {
     top = on p q e inside;
     waiting = stands.waiting;
@@ -138,16 +155,15 @@ module _ (image : Image) (b : Bool) (heap : Words) (ls : List ℕ) (s : State) (
     size = stands.size;
     ticks = stands.ticks;
     dirty = stands.dirty;
-    logged = stands.logged;
     heap = stands.heap;
     words = stands.words;
   }
 
-  next : here + 1 < m → MirrorsState image heap ls (machine.passed s) (state_past c)
+  next : here + 1 < m → MirrorsState image heap (machine.passed s) (state_past c)
   next past = moved (c.place + 1) (here + 1) next_place past
 
   written : (r : ℕ) (v : ℤ) → r < count → FitsSigned w64 v → here + 1 < m
-      → MirrorsState image heap ls (machine.written s r v) (with_register c r (unsigned v))
+      → MirrorsState image heap (machine.written s r v) (with_register c r (unsigned v))
   written r v inside f past = record {
     top = record {
       u = stands.top.u;
@@ -163,26 +179,11 @@ module _ (image : Image) (b : Bool) (heap : Words) (ls : List ℕ) (s : State) (
     size = stands.size;
     ticks = stands.ticks;
     dirty = stands.dirty;
-    logged = stands.logged;
     heap = stands.heap;
     words = stands.words;
   }
 
-  logged : (w : ℕ) → here + 1 < m
-      → MirrorsState image heap (w ∷ ls) (machine.passed s) (state_past (with_logged c w))
-  logged w past = record {
-    top = on (c.place + 1) (here + 1) next_place past;
-    waiting = stands.waiting;
-    few = stands.few;
-    size = stands.size;
-    ticks = stands.ticks;
-    dirty = stands.dirty;
-    logged = ap (λ (ks : List ℕ). w ∷ ks) stands.logged;
-    heap = stands.heap;
-    words = stands.words;
-  }
-
-  spent : here + 1 < m → MirrorsState image heap ls (machine.tick_spent s) (with_tick c)
+  spent : here + 1 < m → MirrorsState image heap (machine.tick_spent s) (with_tick c)
   spent past = record {
     top = on (c.place + 1) (here + 1) next_place past;
     waiting = stands.waiting;
@@ -190,7 +191,6 @@ module _ (image : Image) (b : Bool) (heap : Words) (ls : List ℕ) (s : State) (
     size = stands.size;
     ticks = ap (λ (k : ℕ). k - 1) stands.ticks;
     dirty = stands.dirty;
-    logged = stands.logged;
     heap = stands.heap;
     words = stands.words;
   }
@@ -215,7 +215,7 @@ module _ (image : Image) (b : Bool) (heap : Words) (ls : List ℕ) (s : State) (
       by false e = rw e (stands.words u low)
 
   pub stored : (w : ℕ) (x : ℤ) → FitsSigned w64 x → here + 1 < m
-      → MirrorsState image (put heap w x) ls (machine.stored s w) (with_store c w (unsigned x))
+      → MirrorsState image (put heap w x) (machine.stored s w) (with_store c w (unsigned x))
   stored w x f past = record {
     top = on (c.place + 1) (here + 1) next_place past;
     waiting = stands.waiting;
@@ -223,13 +223,12 @@ module _ (image : Image) (b : Bool) (heap : Words) (ls : List ℕ) (s : State) (
     size = stands.size;
     ticks = stands.ticks;
     dirty = ap (λ (ds : List ℕ). insert_key nat_eq ds (w / 8)) stands.dirty;
-    logged = stands.logged;
     heap = put_heap w x;
     words = put_fits w x f;
   }
 
   flushed : (l : ℕ) (ds : List ℕ) → s.dirty ≡ l ∷ ds
-      → MirrorsState image heap ls (machine.cleaned s) (with_flushed c here ds)
+      → MirrorsState image heap (machine.cleaned s) (with_flushed c here ds)
   flushed l ds e = record {
     top = on here here refl stands.top.inside;
     waiting = stands.waiting;
@@ -237,76 +236,98 @@ module _ (image : Image) (b : Bool) (heap : Words) (ls : List ℕ) (s : State) (
     size = stands.size;
     ticks = stands.ticks;
     dirty = sym (ap (λ (ks : List ℕ). drop 1 ks) e);
-    logged = stands.logged;
     heap = stands.heap;
     words = stands.words;
   }
 
   set : (r : ℕ) (v : ℤ) → nat_lt r count ≡ true → FitsSigned w64 v → here + 1 < m
       → agrees (machine.Goes effect.Quiet (machine.written s r v)) (assign c r (unsigned v))
-  set r v inside f past = rw inside (refl, written r v (ltb-true r count inside) f past)
+  set r v inside f past = rw inside (refl, refl, written r v (ltb-true r count inside) f past)
 
   by_load : (r x : ℕ) (t : Bool) → nat_lt x H ≡ t → nat_lt r count ≡ true → here + 1 < m
       → agrees (load heap s r (if t then Some x else None))
       (assign c r (if t then c.heap x else 0))
   by_load r x true low inside past = rw (stands.heap x, inside) (
     refl,
+    refl,
     written r (heap x) (ltb-true r count inside)
         (stands.words x (ltb-true x H low)) past,
   )
   by_load r x false low inside past = set r (pos 0) inside (record { sfits = omega arith }) past
 
-  by_store : (x : ℕ) (v : ℤ) (t : Bool)
-      → (t ≡ true → lacks_record (setting_of image b) c x ≡ false)
-      → FitsSigned w64 v → here + 1 < m
+  by_store : (x : ℕ) (v : ℤ) (t : Bool) → FitsSigned w64 v → here + 1 < m
       → agrees (store s v (if t then Some x else None))
-      (if t then (if lacks_record (setting_of image b) c x
-      then word_recorded (setting_of image b) c x
-      (λ d. Goes (Recorded x ∷ Stored x (unsigned v) ∷ []) (with_store d x (unsigned v)))
-      else Goes (Stored x (unsigned v) ∷ []) (with_store c x (unsigned v)))
-      else Goes [] (state_past c))
-  by_store x v true has f past = rw (has refl) (refl, stored x v f past)
-  by_store x v false has f past = (refl, next past)
-
-  abbrev C : ℕ
-  C = image.parts.sizes.records
-
-  by_room : (x : ℕ) (t : Bool) → here + 1 < m
-      → agrees (if t then machine.Goes (effect.Logs x) (machine.passed s)
-      else machine.Ends (end.Trapped trap.LogFull))
-      (if t then Goes (Recorded x ∷ []) (state_past (with_logged c x)) else Traps 7)
-  by_room x true past = (refl, logged x past)
-  by_room x false past = refl
+      (if t then after_record image.parts.sizes
+      (unlisted c.logging.words (rolled c.logging.policy x)) (Stored x (unsigned v) ∷ [])
+      (with_store c x (unsigned v)) else Goes [] (state_past c))
+  by_store x v true f past =
+      let o = unlisted c.logging.words (rolled c.logging.policy x) in
+      by o (has_room C c.logging o)
+    where
+      by : (o : Option ℕ) (t : Bool)
+          → TurnsAgree image heap (if t then Plays (with_record o (effect.Stores x v))
+          (noted c.logging o) (machine.stored s x) else Stops (end.Trapped trap.LogFull))
+          (if t then Goes (recorded o ++ Stored x (unsigned v) ∷ [])
+          (with_noted (with_store c x (unsigned v)) o) else Traps 7)
+      by None true = (
+        refl,
+        refl,
+        noted_stands image (put heap x v) (machine.stored s x)
+            (with_store c x (unsigned v)) None (stored x v f past),
+      )
+      by (Some w) true = (
+        refl,
+        refl,
+        noted_stands image (put heap x v) (machine.stored s x)
+            (with_store c x (unsigned v)) (Some w) (stored x v f past),
+      )
+      by None false = refl
+      by (Some w) false = refl
+  by_store x v false f past = (refl, refl, next past)
 
   by_log : (x : ℕ) (t : Bool) → here + 1 < m
-      → agrees (log C (length ls) s (if t then Some x else None))
-      (if t then word_recorded (setting_of image b) c x (λ d. Goes (Recorded x ∷ []) (state_past d))
-      else Goes [] (state_past c))
+      → agrees (log s (if t then Some x else None))
+      (if t then after_record image.parts.sizes (unlisted c.logging.words (Some x)) []
+      (state_past c) else Goes [] (state_past c))
   by_log x true past =
-      let e : nat_lt (length c.logged) C ≡ nat_lt (length ls) C =
-      ap (λ (ks : List ℕ). nat_lt (length ks) C) stands.logged in
-      rw e (by_room x (nat_lt (length ls) C) past)
-  by_log x false past = (refl, next past)
+      let o = unlisted c.logging.words (Some x) in
+      by o (has_room C c.logging o)
+    where
+      by : (o : Option ℕ) (t : Bool)
+          → TurnsAgree image heap (if t then Plays (with_record o (effect.Logs x))
+          (noted c.logging o) (machine.passed s) else Stops (end.Trapped trap.LogFull))
+          (if t then Goes (recorded o ++ []) (with_noted (state_past c) o) else Traps 7)
+      by None true =
+          (refl, refl, noted_stands image heap (machine.passed s) (state_past c) None (next past))
+      by (Some w) true = (
+        refl,
+        refl,
+        noted_stands image heap (machine.passed s) (state_past c)
+            (Some w) (next past),
+      )
+      by None false = refl
+      by (Some w) false = refl
+  by_log x false past = (refl, refl, next past)
 
   by_branch : (t : ℕ) (z : Bool) → nat_lt t m ≡ true → here + 1 < m
       → agrees (machine.Goes effect.Quiet (if z then machine.moved_to s t else machine.passed s))
       (if z then jump_to m c t else Goes [] (state_past c))
-  by_branch t true inside past = rw inside (refl, moved t t refl (ltb-true t m inside))
-  by_branch t false inside past = (refl, next past)
+  by_branch t true inside past = rw inside (refl, refl, moved t t refl (ltb-true t m inside))
+  by_branch t false inside past = (refl, refl, next past)
 
   by_flush : (ds : List ℕ) → s.dirty ≡ ds → here + 1 < m
       → agrees (machine.flush s (slice_get ds 0)) (flush_first m c here ds)
-  by_flush [] e past = (refl, next past)
+  by_flush [] e past = (refl, refl, next past)
   by_flush (l ∷ ds) e past =
       let inside : nat_lt here m ≡ true = lt-ltb here m stands.top.inside in
-      rw inside (refl, flushed l ds e)
+      rw inside (refl, refl, flushed l ds e)
 
   by_tick : (t : Bool) → here + 1 < m
       → agrees (if t then machine.Ends (end.Trapped trap.Steps)
       else machine.Goes effect.Quiet (machine.tick_spent s))
       (if t then Traps 5 else Goes [] (with_tick c))
   by_tick true past = refl
-  by_tick false past = (refl, spent past)
+  by_tick false past = (refl, refl, spent past)
 
   module _ (r f : ℕ) (args : List ℕ) (fetched : fetch image s ≡ Some (Call r f args))
       (past : here + 1 < m) (inside : nat_lt r count ≡ true)
@@ -373,7 +394,7 @@ module _ (image : Image) (b : Bool) (heap : Words) (ls : List ℕ) (s : State) (
     }
 
     entered : length s.below + 1 < 256
-        → MirrorsState image heap ls (machine.entered s r f args)
+        → MirrorsState image heap (machine.entered s r f args)
         (with_callee c r f (variables_of (c_function v) given))
     unfolding waits
     entered room = record {
@@ -392,7 +413,6 @@ module _ (image : Image) (b : Bool) (heap : Words) (ls : List ℕ) (s : State) (
       size = stands.size;
       ticks = stands.ticks;
       dirty = stands.dirty;
-      logged = stands.logged;
       heap = stands.heap;
       words = stands.words;
     }
@@ -417,7 +437,7 @@ module _ (image : Image) (b : Bool) (heap : Words) (ls : List ℕ) (s : State) (
         → agrees (if t then machine.Goes effect.Quiet (machine.entered s r f args)
         else machine.Ends (end.Trapped trap.Depth))
         (if not t then Traps 8 else Goes [] (with_callee c r f (variables_of (c_function v) given)))
-    by_call true e = (refl, entered (ltb-true (length s.below + 1) 256 e))
+    by_call true e = (refl, refl, entered (ltb-true (length s.below + 1) 256 e))
     by_call false e = refl
 
     call : agrees (machine.call s r f args)
@@ -448,6 +468,7 @@ module _ (image : Image) (b : Bool) (heap : Words) (ls : List ℕ) (s : State) (
       let fewer : length hs < 256 = omega (arith, few, many) in
       rw last (
         refl,
+        refl,
         record {
           top = record {
             u = waited.u;
@@ -465,7 +486,6 @@ module _ (image : Image) (b : Bool) (heap : Words) (ls : List ℕ) (s : State) (
           size = stands.size;
           ticks = stands.ticks;
           dirty = stands.dirty;
-          logged = stands.logged;
           heap = stands.heap;
           words = stands.words;
         },
@@ -506,105 +526,95 @@ module _ (image : Image) (b : Bool) (heap : Words) (ls : List ℕ) (s : State) (
       ltb-true (here + 1) m (first_of (nat_lt (here + 1) m)
       (subst (λ (t : Bool). (nat_lt (here + 1) m || t) ≡ true) e good))
 
-  -- where no store to a word that lacks its record is due
-  module _ (kept : (x : ℕ) → due_store image s ≡ Some x
-      → lacks_record (setting_of image b) c x ≡ false) where
-    is_kept : (a v : ℕ) (o : ℤ) → slice_get stands.top.u.code here ≡ Some (Store a o v)
-        → nat_lt (unsigned (word_there a o)) H ≡ true
-        → lacks_record (setting_of image b) c (unsigned (word_there a o)) ≡ false
-    is_kept a v o found low =
-        let x = unsigned (word_there a o) in
-        kept x (ap (stored_by image s) (fetched_at (Store a o v) found) ∙ there a o
-        ∙ ap (λ (t : Bool). if t then Some x else None) low)
+  abbrev does : Op → CStep
+  does op = c_does image.parts.sizes (map c_function us) m c (statement_of here op)
 
-    abbrev does : Op → CStep
-    does op = c_does (setting_of image b) (map c_function us) m c (statement_of here op)
-
-    pub straight : (op : Op) → slice_get stands.top.u.code here ≡ Some op
-        → agrees (execute image heap (length ls) s (Some op)) (does op)
-    straight (Const r v) found =
-        set r v (is_there (Const r v) found)
-        (word_fits v (code.const s.top.function here r v (fetched_at (Const r v) found)))
-        (goes_past (Const r v) found refl)
-    straight (Mov r a) found =
-        let e = is_there (Mov r a) found in
-        let ia = right_of (nat_lt r count) (nat_lt a count) e in
-        let ir = left_of (nat_lt r count) (nat_lt a count) e in
-        rw (read a ia) (set r (at a) ir (word a) (goes_past (Mov r a) found refl))
-    straight (Bin op r a b) found =
-        let e = is_there (Bin op r a b) found in
-        let rest = right_of (nat_lt r count) (nat_lt a count && nat_lt b count) e in
-        let ia = left_of (nat_lt a count) (nat_lt b count) rest in
-        let ib = right_of (nat_lt a count) (nat_lt b count) rest in
-        let ir = left_of (nat_lt r count) (nat_lt a count && nat_lt b count) e in
-        rw (read a ia) (rw (read b ib) (rw (operation_same (at a) (at b) (word a) (word b) op)
-        (set r (applied op (at a) (at b)) ir (applied_fits (at a) (at b) (word a) (word b) op)
-        (goes_past (Bin op r a b) found refl))))
-    straight (Jmp t) found =
-        let e = is_there (Jmp t) found in rw e (refl, moved t t refl (ltb-true t m e))
-    straight (Jz a t) found =
-        let e = is_there (Jz a t) found in
-        let ia = left_of (nat_lt a count) (nat_lt t m) e in
-        let it = right_of (nat_lt a count) (nat_lt t m) e in
-        rw (read a ia) (rw (zero_same (at a) (word a))
-        (by_branch t (int_eq (at a) (pos 0)) it (goes_past (Jz a t) found refl)))
-    straight (Load r a o) found =
-        let e = is_there (Load r a o) found in
-        let ir = left_of (nat_lt r count) (nat_lt a count) e in
-        let ia = right_of (nat_lt r count) (nat_lt a count) e in
-        let f = word_fits o (code.load s.top.function here r a o
-        (fetched_at (Load r a o) found)) in
-        let x = unsigned (word_there a o) in
-        rw (read a ia) (rw (there a o) (rw (add_same (at a) o (word a) f)
-        (by_load r x (nat_lt x H) refl ir (goes_past (Load r a o) found refl))))
-    straight (Store a o b) found =
-        let e = is_there (Store a o b) found in
-        let ia = left_of (nat_lt a count) (nat_lt b count) e in
-        let ib = right_of (nat_lt a count) (nat_lt b count) e in
-        let f = word_fits o (code.store s.top.function here a b o
-        (fetched_at (Store a o b) found)) in
-        let x = unsigned (word_there a o) in
-        rw (read a ia) (rw (read b ib) (rw (there a o) (rw (add_same (at a) o (word a) f)
-        (by_store x (at b) (nat_lt x H) (is_kept a b o found) (word b)
-        (goes_past (Store a o b) found refl)))))
-    straight (Find r) found =
-        let e = is_there (Find r) found in
-        let z = image.parts.sizes in
-        rw (least_same z heap c.heap stands.heap stands.words)
-        (rw e (
-          refl,
-          written r (pos (least z heap)) (ltb-true r count e)
-              (least_fits z heap c.heap stands.heap stands.words) (goes_past (Find r) found refl),
-        ))
-    straight (Log a o) found =
-        let f = word_fits o (code.log s.top.function here a o (fetched_at (Log a o) found)) in
-        let x = unsigned (word_there a o) in
-        rw (read a (is_there (Log a o) found)) (rw (there a o) (rw (add_same (at a) o (word a) f)
-        (by_log x (nat_lt x H) (goes_past (Log a o) found refl))))
-    straight Flush found =
-        subst (λ (ds : List ℕ). agrees (machine.flush s (slice_get s.dirty 0))
-        (flush_first m c here ds)) (sym stands.dirty)
-        (by_flush s.dirty refl (goes_past Flush found refl))
-    straight Fence found = (refl, next (goes_past Fence found refl))
-    straight (Call r f args) found =
-        let e = is_there (Call r f args) found in
-        let low = list_all (λ a. nat_lt a count) args in
-        let takes = takes_arguments (slice_get us f) (length args) in
-        let ir = left_of (nat_lt r count) (low && takes) e in
-        let rest = right_of (nat_lt r count) (low && takes) e in
-        let all = left_of low takes rest in
-        let v = taken us f (length args) (right_of low takes rest) in
-        rw ir (rw all (call r f args (fetched_at (Call r f args) found)
-        (goes_past (Call r f args) found refl) ir all v.0 v.1 v.2))
-    straight (Ret a) found =
-        rw (read a (is_there (Ret a) found)) (leave (at a) c.waiting (word a) stands.waiting)
-    straight Tick found =
-        let same : (c.ticks == 0) ≡ (s.ticks == 0) = ap (λ (k : ℕ). k == 0) stands.ticks in
-        rw same (by_tick (s.ticks == 0) (goes_past Tick found refl))
-    straight (Trap k) found =
-        let e = is_there (Trap k) found in
-        trap_same k (ltb-true 0 k (left_of (nat_lt 0 k) (nat_lt k 9) e))
-        (ltb-true k 9 (right_of (nat_lt 0 k) (nat_lt k 9) e))
-    straight (Halt a) found =
-        rw (read a (is_there (Halt a) found))
-        (halt a c.waiting (fetched_at (Halt a) found) stands.waiting)
+  pub straight : (op : Op) → slice_get stands.top.u.code here ≡ Some op
+      → agrees (execute image heap s (Some op)) (does op)
+  straight (Const r v) found =
+      set r v (is_there (Const r v) found)
+      (word_fits v (code.const s.top.function here r v (fetched_at (Const r v) found)))
+      (goes_past (Const r v) found refl)
+  straight (Mov r a) found =
+      let e = is_there (Mov r a) found in
+      let ia = right_of (nat_lt r count) (nat_lt a count) e in
+      let ir = left_of (nat_lt r count) (nat_lt a count) e in
+      rw (read a ia) (set r (at a) ir (word a) (goes_past (Mov r a) found refl))
+  straight (Bin op r a b) found =
+      let e = is_there (Bin op r a b) found in
+      let rest = right_of (nat_lt r count) (nat_lt a count && nat_lt b count) e in
+      let ia = left_of (nat_lt a count) (nat_lt b count) rest in
+      let ib = right_of (nat_lt a count) (nat_lt b count) rest in
+      let ir = left_of (nat_lt r count) (nat_lt a count && nat_lt b count) e in
+      rw (read a ia) (rw (read b ib) (rw (operation_same (at a) (at b) (word a) (word b) op)
+      (set r (applied op (at a) (at b)) ir (applied_fits (at a) (at b) (word a) (word b) op)
+      (goes_past (Bin op r a b) found refl))))
+  straight (Jmp t) found =
+      let e = is_there (Jmp t) found in rw e (refl, refl, moved t t refl (ltb-true t m e))
+  straight (Jz a t) found =
+      let e = is_there (Jz a t) found in
+      let ia = left_of (nat_lt a count) (nat_lt t m) e in
+      let it = right_of (nat_lt a count) (nat_lt t m) e in
+      rw (read a ia) (rw (zero_same (at a) (word a))
+      (by_branch t (int_eq (at a) (pos 0)) it (goes_past (Jz a t) found refl)))
+  straight (Load r a o) found =
+      let e = is_there (Load r a o) found in
+      let ir = left_of (nat_lt r count) (nat_lt a count) e in
+      let ia = right_of (nat_lt r count) (nat_lt a count) e in
+      let f = word_fits o (code.load s.top.function here r a o
+      (fetched_at (Load r a o) found)) in
+      let x = unsigned (word_there a o) in
+      rw (read a ia) (rw (there a o) (rw (add_same (at a) o (word a) f)
+      (by_load r x (nat_lt x H) refl ir (goes_past (Load r a o) found refl))))
+  straight (Store a o b) found =
+      let e = is_there (Store a o b) found in
+      let ia = left_of (nat_lt a count) (nat_lt b count) e in
+      let ib = right_of (nat_lt a count) (nat_lt b count) e in
+      let f = word_fits o (code.store s.top.function here a b o
+      (fetched_at (Store a o b) found)) in
+      let x = unsigned (word_there a o) in
+      rw (read a ia) (rw (read b ib) (rw (there a o) (rw (add_same (at a) o (word a) f)
+      (by_store x (at b) (nat_lt x H) (word b)
+      (goes_past (Store a o b) found refl)))))
+  straight (Find r) found =
+      let e = is_there (Find r) found in
+      let z = image.parts.sizes in
+      rw (least_same z heap c.heap stands.heap stands.words)
+      (rw e (
+        refl,
+        refl,
+        written r (pos (least z heap)) (ltb-true r count e)
+            (least_fits z heap c.heap stands.heap stands.words) (goes_past (Find r) found refl),
+      ))
+  straight (Log a o) found =
+      let f = word_fits o (code.log s.top.function here a o (fetched_at (Log a o) found)) in
+      let x = unsigned (word_there a o) in
+      rw (read a (is_there (Log a o) found)) (rw (there a o) (rw (add_same (at a) o (word a) f)
+      (by_log x (nat_lt x H) (goes_past (Log a o) found refl))))
+  straight Flush found =
+      subst (λ (ds : List ℕ). agrees (machine.flush s (slice_get s.dirty 0))
+      (flush_first m c here ds)) (sym stands.dirty)
+      (by_flush s.dirty refl (goes_past Flush found refl))
+  straight Fence found = (refl, refl, next (goes_past Fence found refl))
+  straight (Call r f args) found =
+      let e = is_there (Call r f args) found in
+      let low = list_all (λ a. nat_lt a count) args in
+      let takes = takes_arguments (slice_get us f) (length args) in
+      let ir = left_of (nat_lt r count) (low && takes) e in
+      let rest = right_of (nat_lt r count) (low && takes) e in
+      let all = left_of low takes rest in
+      let v = taken us f (length args) (right_of low takes rest) in
+      rw ir (rw all (call r f args (fetched_at (Call r f args) found)
+      (goes_past (Call r f args) found refl) ir all v.0 v.1 v.2))
+  straight (Ret a) found =
+      rw (read a (is_there (Ret a) found)) (leave (at a) c.waiting (word a) stands.waiting)
+  straight Tick found =
+      let same : (c.ticks == 0) ≡ (s.ticks == 0) = ap (λ (k : ℕ). k == 0) stands.ticks in
+      rw same (by_tick (s.ticks == 0) (goes_past Tick found refl))
+  straight (Trap k) found =
+      let e = is_there (Trap k) found in
+      trap_same k (ltb-true 0 k (left_of (nat_lt 0 k) (nat_lt k 9) e))
+      (ltb-true k 9 (right_of (nat_lt 0 k) (nat_lt k 9) e))
+  straight (Halt a) found =
+      rw (read a (is_there (Halt a) found))
+      (halt a c.waiting (fetched_at (Halt a) found) stands.waiting)

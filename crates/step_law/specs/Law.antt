@@ -1,7 +1,7 @@
 -- The run of the printed functions of a transaction is the machine's run: the runtime does the same
 -- to the pool, in the same order, and the run ends alike after as many statements as the machine
 -- needs instructions. C gives it a meaning at each step.
-use Rattle.std.specs.Prelude.{◌≡◌, ◌<◌, ℕ, ◌-◌, ℤ, Bool, true, false, List, [], ◌∷◌, length, map}
+use Rattle.std.specs.Prelude.{◌≡◌, ◌<◌, ℕ, ◌-◌, ℤ, List, [], ◌∷◌, length, map}
 use Rattle.std.specs.Prelude.{Some, slice_get}
 use Rattle.std.specs.List.{AllByRecursion, flat_map}
 use Rattle.cache_model.specs.Cache.{Words}
@@ -16,11 +16,12 @@ use Rattle.pm_machine.specs.declared.effect.Effect.TheVariants.{Loads, Scans, St
 use Rattle.pm_machine.specs.declared.effect.Effect.TheVariants.{Fences, Quiet}
 use Rattle.pm_machine.specs.declared.effect.End.TheVariants as end
 use Rattle.pm_machine.specs.declared.image.Image.{Image}
-use Rattle.pm_machine.specs.Machine.{Run, Unfinished, Finished, fetch_in, mrun}
+use Rattle.pm_machine.specs.declared.records.Policy.{Policy}
+use Rattle.pm_machine.specs.Machine.{Run, Unfinished, Finished, fetch_in}
+use Rattle.pm_machine.specs.Logging.{blank, tx_run}
 use Rattle.pm_machine.specs.Runs.{owed}
 use Rattle.pm_machine.specs.Transactions.{entry_function}
-use Rattle.abort_law.specs.Machine.{mrun_marked}
-use Rattle.c_fragment.specs.State.{RunSetting, PoolStep, Stored, Recorded, Flushed, Fenced}
+use Rattle.c_fragment.specs.State.{PoolStep, Stored, Recorded, Flushed, Fenced}
 use Rattle.c_fragment.specs.Runs.{CRun, GoesOn, Returned, Trapped, c_call}
 use Rattle.c_fragment.specs.Events.{c_events}
 use Rattle.c_fragment.specs.Translation.{c_function}
@@ -54,14 +55,11 @@ pub record IsPrintable (us : List Function) : Type 0 where
 abbrev pub tx_function : Image → ℕ → ℕ
 tx_function image tx = entry_function (slice_get image.parts.txs (tx - 1))
 
-abbrev pub setting_of : Image → Bool → RunSetting
-setting_of image rolls_back = record { sizes = image.parts.sizes; rolls_back = rolls_back }
-
 -- the run of the printed function of a transaction, of at most k statements
-abbrev pub printed_run : Image → Bool → ℕ → Words → ℕ → List ℤ → CRun
-printed_run image rolls_back k heap tx args =
-    c_call (setting_of image rolls_back) (map c_function image.parts.functions) k
-    (tx_function image tx) (map unsigned args) (λ w. unsigned (heap w))
+abbrev pub printed_run : Policy → Image → ℕ → Words → ℕ → List ℤ → CRun
+printed_run p image k heap tx args =
+    c_call p image.parts.sizes (map c_function image.parts.functions) k (tx_function image tx)
+    (map unsigned args) (λ w. unsigned (heap w))
 
 -- the transaction has a function with as many parameters, and arguments and heap hold words
 pub record CanBegin (image : Image) (heap : Words) (tx : ℕ) (args : List ℤ) : Type 0 where
@@ -72,29 +70,17 @@ pub record CanBegin (image : Image) (heap : Words) (tx : ℕ) (args : List ℤ) 
   pub arguments : AllByRecursion IsWord args
   pub words : (w : ℕ) → w < heap_words image.parts.sizes → IsWord (heap w)
 
--- of a transaction that doesn't roll back
+-- The run is the machine's with its records, by the transaction's policy.
 abbrev pub PrintedRunLaw : Type 0
 PrintedRunLaw =
-    (image : Image) (k : ℕ) (heap : Words) (tx : ℕ) (args : List ℤ) → CanBegin image heap tx args
-    → printed_run image false k heap tx args ≡ run_shown (mrun image k heap tx args)
-
--- of a transaction that rolls back
-abbrev pub PrintedMarkedLaw : Type 0
-PrintedMarkedLaw =
-    (image : Image) (k : ℕ) (heap : Words) (tx : ℕ) (args : List ℤ) → CanBegin image heap tx args
-    → printed_run image true k heap tx args ≡ run_shown (mrun_marked image k heap tx args)
+    (p : Policy) (image : Image) (k : ℕ) (heap : Words) (tx : ℕ) (args : List ℤ)
+    → CanBegin image heap tx args
+    → printed_run p image k heap tx args ≡ run_shown (tx_run p image k heap tx args)
 
 -- The events of the device are those that are due of the machine's run.
 abbrev pub PrintedEventsLaw : Type 0
 PrintedEventsLaw =
-    (image : Image) (a k : ℕ) (heap : Words) (tx : ℕ) (args : List ℤ)
+    (p : Policy) (image : Image) (a k : ℕ) (heap : Words) (tx : ℕ) (args : List ℤ)
     → CanBegin image heap tx args
-    → c_events image.parts.sizes a (λ w. unsigned (heap w)) (printed_run image false k heap tx args)
-    ≡ (owed image.parts.sizes a 0 heap (mrun image k heap tx args)).events
-
-abbrev pub MarkedEventsLaw : Type 0
-MarkedEventsLaw =
-    (image : Image) (a k : ℕ) (heap : Words) (tx : ℕ) (args : List ℤ)
-    → CanBegin image heap tx args
-    → c_events image.parts.sizes a (λ w. unsigned (heap w)) (printed_run image true k heap tx args)
-    ≡ (owed image.parts.sizes a 0 heap (mrun_marked image k heap tx args)).events
+    → c_events image.parts.sizes a (λ w. unsigned (heap w)) (printed_run p image k heap tx args)
+    ≡ (owed image.parts.sizes a (blank p) heap (tx_run p image k heap tx args)).events

@@ -60,7 +60,7 @@ form_spots Either place right = never ∷ never ∷ (right ++ truth_spots)
 form_spots (Direct o) place right = right ++ spot place ∷ []
 form_spots (Exchanged o) place right = right ++ spot place ∷ []
 
--- the right side of `?` with a copy behind each side, and a jump over it behind the first copy
+-- the right side of `?` with a copy after each side, and a jump over it after the first copy
 abbrev pub other_spots : (right : List Spot) → List Spot
 other_spots right = never ∷ never ∷ (right ++ never ∷ [])
 

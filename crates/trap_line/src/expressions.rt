@@ -183,7 +183,7 @@ fn push_right(spots: &mut Spots, op: BinaryOp, place: u64, right: &Expr) -> Resu
     }
 }
 
-/// Appends those of the right side of `?`, with a copy behind each side.
+/// Appends those of the right side of `?`, with a copy after each side.
 #[cycle(expressions)]
 #[tactic(auto, using(crate::proofs::Trees::trees))]
 fn push_other_side(spots: &mut Spots, right: &Expr) -> Result<(), AllocError>

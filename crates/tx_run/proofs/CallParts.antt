@@ -18,18 +18,20 @@ use Rattle.args_log.specs.Seal.{payload_events, unsealed_events, sealing_events,
 use Rattle.args_log.specs.Sealing as sealing
 use Rattle.args_log.specs.declared.sealing.SealAnswer.TheVariants as seal
 use Rattle.pm_machine.specs.declared.effect.End.{End}
+use Rattle.pm_machine.specs.declared.records.Policy.{Policy}
 use Rattle.pm_machine.specs.declared.image.Image.{Image}
 use Rattle.pm_machine.specs.Machine.{State, start}
 use Rattle.pm_machine.specs.Runs.{end_of, due_on}
 use Rattle.tx_run.specs.declared.answer.CallAnswer.TheVariants as call
 use Rattle.tx_run.specs.declared.answer.Settled.{Settled}
-use Rattle.tx_run.specs.declared.answer.Settled.TheVariants.{Done, Trap, Off, Failed, NoMemory}
-use Rattle.tx_run.specs.Due.{due_run, due_seal, due_unsealed, due_call}
+use Rattle.tx_run.specs.declared.answer.Settled.TheVariants.{Done, Trap, Aborted, Off, Failed}
+use Rattle.tx_run.specs.declared.answer.Settled.TheVariants.{NoMemory}
+use Rattle.tx_run.specs.Due.{due_run, run_steps, due_seal, due_unsealed, due_call}
 use Rattle.tx_run.specs.Settled.{HasSettled, HasLogged, Settles}
 use Rattle.tx_run.specs.inside.Settled.{call_answer}
-use Rattle.tx_run.specs.Called.{called_run, HasCalled, Called}
+use Rattle.tx_run.specs.Called.{call_steps, HasCalled, Called}
 
-module _ (image : Image) (tx : ℕ) (args : List ℤ) (d b : Device) where
+module _ (p : Policy) (image : Image) (tx : ℕ) (args : List ℤ) (d b : Device) where
   abbrev state : State
   state = start image tx args
 
@@ -40,18 +42,18 @@ module _ (image : Image) (tx : ℕ) (args : List ℤ) (d b : Device) where
   cache_after = play d.cache seal_of
 
   left : (why : Refusal) → PlaysPart why d seal_of b
-      → PlaysPart why d (due_call image tx args d.cache) b
+      → PlaysPart why d (due_call p image tx args d.cache) b
   unfolding due_call
-  left why p = part_left seal_of (due_run image state cache_after) why d b p
+  left why q = part_left seal_of (due_run p image state cache_after) why d b q
 
   -- memory may be short before the first event
-  pub short : PlaysPart refusal.NoMemory d (due_call image tx args d.cache) d
+  pub short : PlaysPart refusal.NoMemory d (due_call p image tx args d.cache) d
   unfolding due_call seal_events unsealed_events payload_events
   short = inl (tt, refl)
 
-  pub seal_off : (p : Phase) (k k1 : ℕ)
-      → sealing.Seals (seal.Off p) d (cast_signed w64 tx) (take ARGUMENTS args)
-      (number_after (view d.cache DONE)) b → Called (call.Off p) image tx args d b k k1
+  pub seal_off : (q : Phase) (k k1 : ℕ)
+      → sealing.Seals (seal.Off q) d (cast_signed w64 tx) (take ARGUMENTS args)
+      (number_after (view d.cache DONE)) b → Called (call.Off q) p image tx args d b k k1
   unfolding seal_events
   seal_off Unsealed k k1 h = (
     left refusal.Off
@@ -66,50 +68,51 @@ module _ (image : Image) (tx : ℕ) (args : List ℤ) (d b : Device) where
   seal_off Sealed k k1 h = absurd h
 
   pub seal_failed : (k k1 : ℕ) → PlaysPart refusal.Failed d seal_of b
-      → Called call.Failed image tx args d b k k1
+      → Called call.Failed p image tx args d b k k1
   seal_failed k k1 h = left refusal.Failed h
 
   pub seal_short : (k k1 : ℕ) → PlaysPart refusal.NoMemory d seal_of b
-      → Called call.NoMemory image tx args d b k k1
+      → Called call.NoMemory p image tx args d b k k1
   seal_short k k1 h = left refusal.NoMemory h
 
   module _ (m : Device) (sealed : PlaysAll d seal_of m) where
     same : m.cache ≡ cache_after
     same = all_cache seal_of d m sealed
 
-    all : PlaysAll m (due_run image state m.cache) b → PlaysAll d (due_call image tx args d.cache) b
+    all : PlaysAll m (due_run p image state m.cache) b → PlaysAll d (due_call p image tx args d.cache) b
     unfolding due_call
-    all h = all_append seal_of (due_run image state cache_after) d m b sealed
-        (subst (λ (c : Cache). PlaysAll m (due_run image state c) b) same h)
+    all h = all_append seal_of (due_run p image state cache_after) d m b sealed
+        (subst (λ (c : Cache). PlaysAll m (due_run p image state c) b) same h)
 
-    went : (why : Refusal) → PlaysPart why m (due_run image state m.cache) b
-        → PlaysPart why m (due_run image state cache_after) b
-    went why h = subst (λ (c : Cache). PlaysPart why m (due_run image state c) b) same h
+    went : (why : Refusal) → PlaysPart why m (due_run p image state m.cache) b
+        → PlaysPart why m (due_run p image state cache_after) b
+    went why h = subst (λ (c : Cache). PlaysPart why m (due_run p image state c) b) same h
 
-    right : (why : Refusal) → PlaysPart why m (due_run image state m.cache) b
-        → PlaysPart why d (due_call image tx args d.cache) b
+    right : (why : Refusal) → PlaysPart why m (due_run p image state m.cache) b
+        → PlaysPart why d (due_call p image tx args d.cache) b
     unfolding due_call
-    right why h = part_right seal_of (due_run image state cache_after) why d m b sealed (went why h)
+    right why h = part_right seal_of (due_run p image state cache_after) why d m b sealed (went why h)
 
-    ended : (e : End) (k k1 : ℕ) → HasSettled e image state m b k k1
-        → HasCalled e image tx args d b k k1
+    ended : (e : End) (k k1 : ℕ) → HasSettled e p image state m b k k1
+        → HasCalled e p image tx args d b k k1
     ended e k k1 h = record {
-      fate = subst (λ (c : Cache). end_of (due_on image state c).fate ≡ e) same h.fate;
+      fate = subst (λ (c : Cache). end_of (due_on p image state c).fate ≡ e) same h.fate;
       played = all h.played;
-      steps = subst (λ (c : Cache). k1 ≡ k + (due_on image state c).steps) same h.steps;
+      steps = subst (λ (c : Cache). k1 ≡ k + run_steps p image state c) same h.steps;
     }
 
     pub still_on : m.on ≡ d.on
     still_on = all_on seal_of d m sealed
 
-    pub spent_of : (k k1 : ℕ) → k1 ≤ k + (due_on image state m.cache).steps →
-        k1 ≤ k + (called_run image tx args d).steps
-    spent_of k k1 h = subst (λ (c : Cache). k1 ≤ k + (due_on image state c).steps) same h
+    pub spent_of : (k k1 : ℕ) → k1 ≤ k + run_steps p image state m.cache →
+        k1 ≤ k + call_steps p image tx args d
+    spent_of k k1 h = subst (λ (c : Cache). k1 ≤ k + run_steps p image state c) same h
 
-    pub called_of : (a : Settled) (k k1 : ℕ) → Settles a image state m b k k1
-        → Called (call_answer a) image tx args d b k k1
-    called_of (Done v l) k k1 h = (ended _ k k1 h.0, subst (HasLogged l image state) same h.1)
-    called_of (Trap t) k k1 h = ended _ k k1 h
+    pub called_of : (a : Settled) (k k1 : ℕ) → Settles a p image state m b k k1
+        → Called (call_answer a) p image tx args d b k k1
+    called_of (Done v l) k k1 h = (ended _ k k1 h.0, subst (HasLogged l p image state) same h.1)
+    called_of (Trap t) k k1 h = (h.0, ended _ k k1 h.1)
+    called_of (Aborted t) k k1 h = (h.0, ended _ k k1 h.1)
     called_of Off k k1 h = (
       right refusal.Off h,
       record { between = m; done = sealed; went = went refusal.Off h },

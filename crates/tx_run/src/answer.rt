@@ -13,10 +13,12 @@ use pool_map::TrapKind;
 /// before the first event.
 #[derive(Clone, Copy, Debug, PartialEq, Eq, Drop)]
 pub enum CallAnswer {
-    /// The call is retired; `logged` is the number of LOG instructions of its run.
+    /// The call is retired; `logged` is the number of records that its run took.
     Done { value: i64, logged: u64 },
     /// The run trapped, and the mark is durable.
     Trap(TrapKind),
+    /// The run trapped, and the call is rolled back.
+    Aborted(TrapKind),
     Off(Phase),
     Failed,
     /// The pool has a mark; there was no event.
@@ -27,11 +29,12 @@ pub enum CallAnswer {
 }
 
 /// How a sealed call was settled: it was retired with the value of its run, or marked with its
-/// trap, or a refusal cut it short.
+/// trap, or rolled back, or a refusal cut it short.
 #[derive(Clone, Copy, Drop)]
 pub enum Settled {
     Done { value: i64, logged: u64 },
     Trap(TrapKind),
+    Aborted(TrapKind),
     Off,
     Failed,
     NoMemory,
@@ -46,6 +49,7 @@ impl CallAnswer {
         match settled {
             Settled::Done { value, logged } => CallAnswer::Done { value, logged },
             Settled::Trap(kind) => CallAnswer::Trap(kind),
+            Settled::Aborted(kind) => CallAnswer::Aborted(kind),
             Settled::Off => CallAnswer::Off(Phase::Sealed),
             Settled::Failed => CallAnswer::Failed,
             Settled::NoMemory => CallAnswer::NoMemory,

@@ -3,14 +3,15 @@
 ghost use Rattle.std.specs.Prelude.{◌≡◌, ◌+◌, ◌≤◌, true, length};
 ghost use Rattle.pool_layout.specs.Sizes.{pool_lines};
 ghost use Rattle.pm_machine.specs.Machine.{start};
-ghost use Rattle.tx_run.specs.Called.{called_run, Called, IsTxCalled};
+ghost use Rattle.tx_run.specs.Due.{most_steps};
+ghost use Rattle.tx_run.specs.Called.{call_steps, Called, IsTxCalled};
 
 use crate::answer::CallAnswer;
 use crate::settling::settle;
 use crate::standing::{Standing, assess};
 use args_log::{SealAnswer, seal};
 use nvm_base::Steps;
-use pm_machine::{Image, Machine, Spare};
+use pm_machine::{Image, Machine, Policy, Spare};
 use pmem::{Phase, PmemWork};
 use std::alloc::Global;
 use std::sync::ledger::Ledger;
@@ -18,6 +19,7 @@ use std::sync::ledger::Ledger;
 /// Seals the call of a machine that is at its start, and settles it.
 fn run<P: PmemWork, L: Ledger>(
     image: &Image,
+    policy: Policy,
     machine: &mut Machine,
     tx: u64,
     args: &[i64],
@@ -25,17 +27,17 @@ fn run<P: PmemWork, L: Ledger>(
     steps: &mut Steps<L>,
 ) -> CallAnswer
     requires lines { (P.device dev.old).lines ≡ pool_lines image.now.parts.sizes }
-    requires start { machine.old ≡ start image.now tx args.now }
+    requires start { machine.old.processor ≡ start image.now tx args.now }
     requires on { (P.device dev.old).on ≡ true }
-    ensures called { Called result image.now tx args.now (P.device dev.old) (P.device dev.new)
-        steps.old steps.new }
+    ensures called { Called result policy image.now tx args.now (P.device dev.old)
+        (P.device dev.new) steps.old steps.new }
     ensures bound { steps.new ≤
-        steps.old + (called_run image.now tx args.now (P.device dev.old)).steps }
-    ensures most { steps.new ≤ steps.old + image.now.parts.most }
+        steps.old + call_steps policy image.now tx args.now (P.device dev.old) }
+    ensures most { steps.new ≤ steps.old + most_steps policy image.now }
     ensures lines { (P.device dev.new).lines ≡ (P.device dev.old).lines }
 {
     match seal(dev, tx, args) {
-        SealAnswer::Done => CallAnswer::of(settle(image, machine, dev, steps)),
+        SealAnswer::Done => CallAnswer::of(settle(image, policy, machine, dev, steps)),
         SealAnswer::Off(phase) => CallAnswer::Off(phase),
         SealAnswer::Failed => CallAnswer::Failed,
         SealAnswer::NoMemory => CallAnswer::NoMemory,
@@ -45,13 +47,14 @@ fn run<P: PmemWork, L: Ledger>(
 /// Calls a transaction, counted from 1, with as many arguments as it has parameters, on the pool of
 /// the image. The mark is checked first, then the numbers; then the kept machine is started, which
 /// takes memory for its frames only the first time, the arguments are sealed, the machine runs, and
-/// its value is retired, or its trap marked. On a device that is off the answer is `Off(Unsealed)`,
-/// and nothing has changed. A call that is refused takes no step, and any other at most those of
-/// its run.
+/// its value is retired, or its trap marked, or the call is rolled back, as the policy says. On a
+/// device that is off the answer is `Off(Unsealed)`, and nothing has changed. A call that is refused
+/// takes no step, and any other at most those of its run, and one for each record that is put back.
 pub fn call<P: PmemWork, L: Ledger>(
     alloc: Global,
     spare: &mut Spare,
     image: &Image,
+    policy: Policy,
     tx: u64,
     args: &[i64],
     dev: &mut P,
@@ -60,9 +63,9 @@ pub fn call<P: PmemWork, L: Ledger>(
     requires lines { (P.device dev.old).lines ≡ pool_lines image.now.parts.sizes }
     requires first { 1 ≤ tx }
     requires last { tx ≤ length image.now.parts.txs }
-    ensures called { IsTxCalled result image.now tx args.now (P.device dev.old) (P.device dev.new)
-        steps.old steps.new }
-    ensures most { steps.new ≤ steps.old + image.now.parts.most }
+    ensures called { IsTxCalled result policy image.now tx args.now (P.device dev.old)
+        (P.device dev.new) steps.old steps.new }
+    ensures most { steps.new ≤ steps.old + most_steps policy image.now }
     ensures lines { (P.device dev.new).lines ≡ (P.device dev.old).lines }
 {
     match assess(dev) {
@@ -72,7 +75,7 @@ pub fn call<P: PmemWork, L: Ledger>(
         Standing::Numbers => return CallAnswer::Numbers,
     }
     match spare.start(alloc, image, tx, args) {
-        Some(machine) => run(image, machine, tx, args, dev, steps),
+        Some(machine) => run(image, policy, machine, tx, args, dev, steps),
         None => CallAnswer::NoMemory,
     }
 }

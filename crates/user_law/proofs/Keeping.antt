@@ -21,14 +21,13 @@ use Rattle.crash_law.specs.Pools.{IsBefore}
 use Rattle.crash_law.specs.Law.{IsCut, IsEnd}
 use Rattle.run_law.specs.Seen.{result_of, E, W}
 use Rattle.cut_law.specs.Law.{call_of, pool_with}
-use Rattle.abort_law.specs.Cuts.{IsMarkedCut}
 use Rattle.cnvm_session.specs.declared.mode.Mode.{Mode}
 use Rattle.cnvm_session.specs.declared.program.Program.{Program}
-use Rattle.cnvm_session.specs.Marks.{rolls_back_of}
+use Rattle.cnvm_session.specs.Marks.{rolls_back_of, policy_of}
 use Rattle.cnvm_session.specs.Pool.{sizes_of}
 use Rattle.session_law.specs.State.{Pending}
 use Rattle.session_law.specs.State as session
-use Rattle.session_law.specs.Holds.{HoldsPool, HoldsAs, OwesOne, OwesMarked, OwesBy}
+use Rattle.session_law.specs.Holds.{HoldsPool, HoldsAs, OwesBy}
 use Rattle.session_law.proofs.Ones.{rest_one}
 use Rattle.session_law.proofs.Heaps.{pool_same}
 use Rattle.user_law.specs.Source.{Logs}
@@ -70,33 +69,27 @@ module _ (program : Program) (logs : Logs) (super : Words) (d : Device) (s : Use
     abbrev Cut : Words → Type 0
     Cut = IsOwedAt phase.Sealing (source_in program logs) s
 
-    ended : (owes : OwesOne program super call d (plain s)) (image : Words) (end : End) →
+    ended : (marked : Bool) (owes : OwesBy marked program super call d (plain s)) (image : Words)
+        (end : End) →
         IsEnd (pool_with program.image super) (call_of s.done call.tx call.args) owes.heap
-        (heap_end owes.heap owes.effects) (result_of end) image → Cut image
-    ended owes image (Halted v) is = inr (inl is.seal_is)
-    ended owes image (Trapped kind) is =
+        (heap_end owes.heap owes.effects) (result_of (policy_of marked) s.last end) image → Cut image
+    ended marked owes image (Halted v) is = inr (inl is.seal_is)
+    ended true owes image (Trapped kind) is = inr (inl is.seal_is)
+    ended false owes image (Trapped kind) is =
         inr (inr (has_mark (image MARK) (trap_number kind) is.0 is.1))
 
-    cut_one : (owes : OwesOne program super call d (plain s)) (image : Words) →
-        IsCut (pool_with program.image super) (call_of s.done call.tx call.args) (E owes.effects)
-        (W owes.effects) owes.heap (heap_end owes.heap owes.effects) s.last (result_of owes.end)
+    cut_one : (marked : Bool) (owes : OwesBy marked program super call d (plain s)) (image : Words) →
+        IsCut (pool_with program.image super) (call_of s.done call.tx call.args)
+        (E (policy_of marked) owes.effects) (W owes.effects) owes.heap
+        (heap_end owes.heap owes.effects) s.last (result_of (policy_of marked) s.last owes.end)
         image → Cut image
-    cut_one owes image (inl before) = inl (state_of owes.heap owes.holds image before)
-    cut_one owes image (inr (inl sealed)) = inr (inl sealed.sealed)
-    cut_one owes image (inr (inr is)) = ended owes image owes.end is
-
-    cut_marked : (owes : OwesMarked program super call d (plain s)) (image : Words) (end : End) →
-        IsMarkedCut (pool_with program.image super) (call_of s.done call.tx call.args) owes.heap
-        (heap_end owes.heap owes.effects) s.last end image → Cut image
-    cut_marked owes image end (inl before) = inl (state_of owes.heap owes.holds image before)
-    cut_marked owes image end (inr (inl sealed)) = inr (inl sealed.sealed)
-    cut_marked owes image (Halted v) (inr (inr is)) = inr (inl is.seal_is)
-    cut_marked owes image (Trapped kind) (inr (inr is)) = inr (inl is.seal_is)
+    cut_one marked owes image (inl before) = inl (state_of owes.heap owes.holds image before)
+    cut_one marked owes image (inr (inl sealed)) = inr (inl sealed.sealed)
+    cut_one marked owes image (inr (inr is)) = ended marked owes image owes.end is
 
     cut_by : (marked : Bool) → OwesBy marked program super call d (plain s) → (image : Words) →
         IsImage d.cache image → Cut image
-    cut_by false owes image is = cut_one owes image (owes.left image is)
-    cut_by true owes image is = cut_marked owes image owes.end (owes.left image is)
+    cut_by marked owes image is = cut_one marked owes image (owes.left image is)
 
   pub owed_sealing : (m : Mode) (call : Pending)
       → HoldsAs (session.Down (Some call)) program super m d (plain s)

@@ -14,6 +14,7 @@ use Rattle.pool_layout.specs.declared.limits.Sizes.{Sizes}
 use Rattle.pool_layout.specs.Image.{is_sealed}
 use Rattle.pool_map.specs.declared.shapes.Shapes.{Shapes}
 use Rattle.c_types.specs.Shapes.{shapes_of}
+use Rattle.pm_machine.specs.declared.records.Policy.{Policy}
 use Rattle.pm_machine.specs.declared.image.Image.{Image}
 use Rattle.tx_run.specs.Called.{Called, IsTxCalled}
 use Rattle.tx_run.specs.Due.{due_call}
@@ -28,10 +29,6 @@ use Rattle.recovery.specs.Recovered.{Cleaned, Redid, IsRecovered, numbers_out, t
 use Rattle.recovery.specs.Recovered.{valid_in}
 use Rattle.recovery.specs.declared.answer.RecoverAnswer.{RecoverAnswer}
 use Rattle.recovery.specs.declared.answer.RecoverAnswer.TheVariants as recovered
-use Rattle.abort_mode.specs.Answers.{AbortCalled, AbortRedid, IsAbortCalled, IsAbortRedone}
-use Rattle.abort_mode.specs.Due as abort
-use Rattle.abort_mode.specs.declared.answer.AbortAnswer.{AbortAnswer}
-use Rattle.abort_mode.specs.declared.answer.AbortAnswer.TheVariants as aborted
 use Rattle.cnvm_script.specs.declared.command.Command.{Command}
 use Rattle.cnvm_script.specs.declared.command.Command.TheVariants as command
 use Rattle.cnvm_session.specs.declared.answer.Answer.{Answer}
@@ -41,17 +38,15 @@ use Rattle.cnvm_session.specs.declared.mode.Mode.TheVariants as mode
 use Rattle.cnvm_session.specs.declared.program.Program.{Program}
 use Rattle.cnvm_session.specs.Commands as commanded
 use Rattle.cnvm_session.specs.Commands.{call_number, tx_parameters, fallen, Commanded}
-use Rattle.cnvm_session.specs.Marks.{rolls_back_of, owes_marked}
-use Rattle.cnvm_session.specs.Outcomes.{answer_of_call, answer_of_recovery, answer_of_marked_call}
-use Rattle.cnvm_session.specs.Outcomes.{answer_of_marked_recovery, RunsBy, RecoversBy}
+use Rattle.cnvm_session.specs.Marks.{rolls_back_of, policy_of, owes_marked}
+use Rattle.cnvm_session.specs.Outcomes.{answer_of_call, answer_of_recovery, RunsBy, RecoversBy}
 use Rattle.cnvm_session.specs.Pool.{sizes_of}
 use Rattle.session_law.specs.Holds.{HoldsAs}
 use Rattle.session_law.specs.State as session
 use Rattle.session_law.specs.State.{SourceState}
 use Rattle.user_law.specs.Played.{prepared, PlaysAs}
 use Rattle.user_law.specs.Seen.{PlayedLaw}
-use Rattle.user_law.proofs.Counting.{most_events, call_few, clean_few, redo_few, marked_call_few}
-use Rattle.user_law.proofs.Counting.{marked_redo_few}
+use Rattle.user_law.proofs.Counting.{most_events, call_few, clean_few, redo_few}
 
 -- some events, not many, are played as the answer says
 abbrev Plays : ℕ → Answer → Device → Device → Type 0
@@ -74,30 +69,32 @@ none_played : (most : ℕ) (a why : Answer) (d b : Device) → a ≡ why → Pla
 none_played most a why d b is played =
     subst (λ (x : Answer). Plays most x d b) (sym is) ([], omega arith, played)
 
-module _ (image : Image) (d b : Device) (k k1 : ℕ) where
+module _ (p : Policy) (image : Image) (d b : Device) (k k1 : ℕ) where
   abbrev most : ℕ
   most = most_events image
 
   abbrev Made : Answer → Device → Device → Type 0
   Made = Plays most
 
-  call_plays : (tx : ℕ) (args : List ℤ) (r : CallAnswer) → Called r image tx args d b k k1 →
+  call_plays : (tx : ℕ) (args : List ℤ) (r : CallAnswer) → Called r p image tx args d b k k1 →
       Made (answer_of_call r) d b
   call_plays tx args (called.Done v l) h =
-      (due_call image tx args d.cache, call_few image tx args d.cache, h.0.played)
+      (due_call p image tx args d.cache, call_few p image tx args d.cache, h.0.played)
   call_plays tx args (called.Trap t) h =
-      (due_call image tx args d.cache, call_few image tx args d.cache, h.played)
-  call_plays tx args (called.Off p) h =
-      (due_call image tx args d.cache, call_few image tx args d.cache, h.0)
+      (due_call p image tx args d.cache, call_few p image tx args d.cache, h.1.played)
+  call_plays tx args (called.Aborted t) h =
+      (due_call p image tx args d.cache, call_few p image tx args d.cache, h.1.played)
+  call_plays tx args (called.Off at) h =
+      (due_call p image tx args d.cache, call_few p image tx args d.cache, h.0)
   call_plays tx args called.Failed h =
-      (due_call image tx args d.cache, call_few image tx args d.cache, h)
+      (due_call p image tx args d.cache, call_few p image tx args d.cache, h)
   call_plays tx args called.NoMemory h =
-      (due_call image tx args d.cache, call_few image tx args d.cache, inr h)
+      (due_call p image tx args d.cache, call_few p image tx args d.cache, inr h)
   call_plays tx args (called.Unusable t) h = absurd h
   call_plays tx args called.Numbers h = absurd h
 
   tx_plays : (tx : ℕ) (args : List ℤ) (r : CallAnswer) → d.on ≡ true →
-      IsTxCalled r image tx args d b k k1 → Made (answer_of_call r) d b
+      IsTxCalled r p image tx args d b k k1 → Made (answer_of_call r) d b
   tx_plays tx args r on is = go (standing_of (view d.cache)) refl
     where
       go : (st : Standing) → standing_of (view d.cache) ≡ st → Made (answer_of_call r) d b
@@ -112,37 +109,6 @@ module _ (image : Image) (d b : Device) (k k1 : ℕ) where
           same.1
       go stands.Off e = absurd (never_off (view d.cache) e)
 
-  marked_call_plays : (tx : ℕ) (args : List ℤ) (r : AbortAnswer) →
-      AbortCalled r image tx args d b k k1 → Made (answer_of_marked_call r) d b
-  marked_call_plays tx args (aborted.Done v l) h =
-      (abort.due_call image tx args d.cache, marked_call_few image tx args d.cache, h.0.played)
-  marked_call_plays tx args (aborted.Aborted t) h =
-      (abort.due_call image tx args d.cache, marked_call_few image tx args d.cache, h.played)
-  marked_call_plays tx args (aborted.Off p) h =
-      (abort.due_call image tx args d.cache, marked_call_few image tx args d.cache, h.0)
-  marked_call_plays tx args aborted.Failed h =
-      (abort.due_call image tx args d.cache, marked_call_few image tx args d.cache, h)
-  marked_call_plays tx args aborted.NoMemory h =
-      (abort.due_call image tx args d.cache, marked_call_few image tx args d.cache, inr h)
-  marked_call_plays tx args (aborted.Unusable t) h = absurd h
-  marked_call_plays tx args aborted.Numbers h = absurd h
-
-  marked_tx_plays : (tx : ℕ) (args : List ℤ) (r : AbortAnswer) → d.on ≡ true →
-      IsAbortCalled r image tx args d b k k1 → Made (answer_of_marked_call r) d b
-  marked_tx_plays tx args r on is = go (standing_of (view d.cache)) refl
-    where
-      go : (st : Standing) → standing_of (view d.cache) ≡ st → Made (answer_of_marked_call r) d b
-      go stands.Ready e = marked_call_plays tx args r (is.ready on e)
-      go (stands.Unusable kind) e =
-          let same = is.unusable kind on e in
-          none_played most (answer_of_marked_call r) (answer.RefusedUnusable kind) d b
-          (ap answer_of_marked_call same.0) same.1
-      go stands.Numbers e =
-          let same = is.numbers on e in
-          none_played most (answer_of_marked_call r) answer.RefusedNumbers d b
-          (ap answer_of_marked_call same.0) same.1
-      go stands.Off e = absurd (never_off (view d.cache) e)
-
   clean_plays : (es : List CacheEvent) → length es ≤ most → (r : RecoverAnswer) →
       Cleaned r d es b →
       Made (answer_of_recovery r) d b
@@ -154,58 +120,33 @@ module _ (image : Image) (d b : Device) (k k1 : ℕ) where
   clean_plays es few recovered.NoMemory h = (es, few, inr h)
   clean_plays es few (recovered.Redone v l) h = absurd h
   clean_plays es few (recovered.Trap t) h = absurd h
+  clean_plays es few (recovered.Aborted t) h = absurd h
   clean_plays es few (recovered.Unusable t) h = absurd h
   clean_plays es few recovered.Numbers h = absurd h
 
   redo_plays : (tx : ℕ) (args : List ℤ) (n : ℕ) (r : RecoverAnswer) →
-      Redid r image tx args n d b k k1 → Made (answer_of_recovery r) d b
+      Redid r p image tx args n d b k k1 → Made (answer_of_recovery r) d b
   redo_plays tx args n (recovered.Redone v l) h =
-      (due_redo image tx args n d.cache, redo_few image tx args n d.cache, h.0.played)
+      (due_redo p image tx args n d.cache, redo_few p image tx args n d.cache, h.0.played)
   redo_plays tx args n (recovered.Trap t) h =
-      (due_redo image tx args n d.cache, redo_few image tx args n d.cache, h.played)
+      (due_redo p image tx args n d.cache, redo_few p image tx args n d.cache, h.1.played)
+  redo_plays tx args n (recovered.Aborted t) h =
+      (due_redo p image tx args n d.cache, redo_few p image tx args n d.cache, h.1.played)
   redo_plays tx args n (recovered.Off phase.Sealed) h =
-      (due_redo image tx args n d.cache, redo_few image tx args n d.cache, h)
+      (due_redo p image tx args n d.cache, redo_few p image tx args n d.cache, h)
   redo_plays tx args n (recovered.Off phase.Unsealed) h = absurd h
   redo_plays tx args n (recovered.Off phase.Sealing) h = absurd h
   redo_plays tx args n recovered.Failed h =
-      (due_redo image tx args n d.cache, redo_few image tx args n d.cache, h)
+      (due_redo p image tx args n d.cache, redo_few p image tx args n d.cache, h)
   redo_plays tx args n recovered.NoMemory (inl h) =
-      (due_redo image tx args n d.cache, redo_few image tx args n d.cache, inl h.0)
+      (due_redo p image tx args n d.cache, redo_few p image tx args n d.cache, inl h.0)
   redo_plays tx args n recovered.NoMemory (inr h) =
-      (due_redo image tx args n d.cache, redo_few image tx args n d.cache, inr h)
+      (due_redo p image tx args n d.cache, redo_few p image tx args n d.cache, inr h)
   redo_plays tx args n recovered.Clean h = absurd h
   redo_plays tx args n (recovered.Unusable t) h = absurd h
   redo_plays tx args n recovered.Numbers h = absurd h
 
-  marked_redo_plays : (tx : ℕ) (args : List ℤ) (n : ℕ) (r : AbortAnswer) →
-      AbortRedid r image tx args n d b k k1 → Made (answer_of_marked_recovery r) d b
-  marked_redo_plays tx args n (aborted.Done v l) h = (
-    abort.abort_due_redo image tx args n d.cache,
-    marked_redo_few image tx args n d.cache,
-    h.0.played,
-  )
-  marked_redo_plays tx args n (aborted.Aborted t) h = (
-    abort.abort_due_redo image tx args n d.cache,
-    marked_redo_few image tx args n d.cache,
-    h.played,
-  )
-  marked_redo_plays tx args n (aborted.Off phase.Sealed) h =
-      (abort.abort_due_redo image tx args n d.cache, marked_redo_few image tx args n d.cache, h)
-  marked_redo_plays tx args n (aborted.Off phase.Unsealed) h = absurd h
-  marked_redo_plays tx args n (aborted.Off phase.Sealing) h = absurd h
-  marked_redo_plays tx args n aborted.Failed h =
-      (abort.abort_due_redo image tx args n d.cache, marked_redo_few image tx args n d.cache, h)
-  marked_redo_plays tx args n aborted.NoMemory (inl h) = (
-    abort.abort_due_redo image tx args n d.cache,
-    marked_redo_few image tx args n d.cache,
-    inl h.0,
-  )
-  marked_redo_plays tx args n aborted.NoMemory (inr h) =
-      (abort.abort_due_redo image tx args n d.cache, marked_redo_few image tx args n d.cache, inr h)
-  marked_redo_plays tx args n (aborted.Unusable t) h = absurd h
-  marked_redo_plays tx args n aborted.Numbers h = absurd h
-
-  recovery_plays : (r : RecoverAnswer) → d.on ≡ true → IsRecovered r image d b k k1 →
+  recovery_plays : (r : RecoverAnswer) → d.on ≡ true → IsRecovered r p image d b k k1 →
       Made (answer_of_recovery r) d b
   recovery_plays r on is = by_mark (int_eq (view d.cache MARK) (pos 0)) refl
     where
@@ -244,59 +185,18 @@ module _ (image : Image) (d b : Device) (k k1 : ℕ) where
           none_played most (answer_of_recovery r) (answer.RefusedUnusable _) d b
           (ap answer_of_recovery same.0) same.1
 
-  marked_recovery_plays : (r : AbortAnswer) → d.on ≡ true → IsAbortRedone r image d b k k1 →
-      Made (answer_of_marked_recovery r) d b
-  marked_recovery_plays r on is = by_mark (int_eq (view d.cache MARK) (pos 0)) refl
-    where
-      numbers : (r ≡ aborted.Numbers) × (b ≡ d) × (k1 ≡ k) →
-          Made (answer_of_marked_recovery r) d b
-      numbers same =
-          none_played most (answer_of_marked_recovery r) answer.RefusedNumbers d b
-          (ap answer_of_marked_recovery same.0) same.1
-
-      by_name : (named : Bool) → names_tx image (tx_in d) ≡ named → view d.cache MARK ≡ pos 0 →
-          numbers_out image d ≡ false → Made (answer_of_marked_recovery r) d b
-      by_name true e mark out =
-          marked_redo_plays (tx_in d) (args_in image d) (valid_in image d) r (is.redid on mark out
-          e)
-      by_name false e mark out = numbers (is.unnamed on mark out e)
-
-      by_numbers : (out : Bool) → numbers_out image d ≡ out → view d.cache MARK ≡ pos 0 →
-          Made (answer_of_marked_recovery r) d b
-      by_numbers true e mark = numbers (is.numbers on mark e)
-      by_numbers false e mark = by_name (names_tx image (tx_in d)) refl mark e
-
-      by_mark : (none : Bool) → int_eq (view d.cache MARK) (pos 0) ≡ none →
-          Made (answer_of_marked_recovery r) d b
-      by_mark true e =
-          by_numbers (numbers_out image d) refl ((Decides-int_eq (view d.cache MARK) (pos 0)).0 e)
-      by_mark false e =
-          let same = is.unusable on (λ mark. let t : true ≡ false =
-          sym ((Decides-int_eq (view d.cache MARK) (pos 0)).1 mark) ∙ e in absurd cc) in
-          none_played most (answer_of_marked_recovery r) (answer.RefusedUnusable _) d b
-          (ap answer_of_marked_recovery same.0) same.1
-
 -- the device before a recovery is the one that the cut leaves, since no recovery refuses a pick
 prepared_by : (choice : Choice) (d : Device) (r : RecoverAnswer) →
     prepared (command.Power choice) (answer_of_recovery r) d ≡ powered choice d
 prepared_by choice d recovered.Clean = refl
 prepared_by choice d (recovered.Redone v l) = refl
 prepared_by choice d (recovered.Trap kind) = refl
+prepared_by choice d (recovered.Aborted kind) = refl
 prepared_by choice d (recovered.Unusable kind) = refl
 prepared_by choice d recovered.Numbers = refl
 prepared_by choice d (recovered.Off p) = refl
 prepared_by choice d recovered.Failed = refl
 prepared_by choice d recovered.NoMemory = refl
-
-prepared_marked : (choice : Choice) (d : Device) (r : AbortAnswer) →
-    prepared (command.Power choice) (answer_of_marked_recovery r) d ≡ powered choice d
-prepared_marked choice d (aborted.Done v l) = refl
-prepared_marked choice d (aborted.Aborted kind) = refl
-prepared_marked choice d (aborted.Unusable kind) = refl
-prepared_marked choice d aborted.Numbers = refl
-prepared_marked choice d (aborted.Off p) = refl
-prepared_marked choice d aborted.Failed = refl
-prepared_marked choice d aborted.NoMemory = refl
 
 module _ (program : Program) (d b : Device) (a : Answer) (n : Mode) (k k1 : ℕ) where
   abbrev its_most : ℕ
@@ -307,12 +207,9 @@ module _ (program : Program) (d b : Device) (a : Answer) (n : Mode) (k k1 : ℕ)
 
   runs_play : (marked : Bool) (tx : ℕ) (args : List ℤ) → d.on ≡ true →
       RunsBy marked program.image tx args d a n b k k1 → Performed a d b
-  runs_play false tx args on is =
+  runs_play marked tx args on is =
       subst (λ (x : Answer). Performed x d b) (sym is.answer)
-      (tx_plays program.image d b k k1 tx args is.tx_answer on is.called)
-  runs_play true tx args on is =
-      subst (λ (x : Answer). Performed x d b) (sym is.answer)
-      (marked_tx_plays program.image d b k k1 tx args is.tx_answer on is.called)
+      (tx_plays (policy_of marked) program.image d b k k1 tx args is.tx_answer on is.called)
 
   with_plays : (same : Bool) (tx : ℕ) (args : List ℤ) → d.on ≡ true →
       commanded.CallsWith same program tx args d a n b k k1 → Performed a d b
@@ -374,16 +271,12 @@ module _ (program : Program) (d b : Device) (a : Answer) (n : Mode) (k k1 : ℕ)
   recovers_play : (choice : Choice) (marked : Bool) →
       RecoversBy marked program.image (powered choice d) a n b k k1 →
       Performed a (prepared (command.Power choice) a d) b
-  recovers_play choice false is =
+  recovers_play choice marked is =
       subst (λ (x : Answer). Performed x (prepared (command.Power choice) x d) b) (sym is.answer)
       (subst (λ (e : Device). Performed (answer_of_recovery is.tx_answer) e b)
       (sym (prepared_by choice d is.tx_answer))
-      (recovery_plays program.image (powered choice d) b k k1 is.tx_answer refl is.recovered))
-  recovers_play choice true is =
-      subst (λ (x : Answer). Performed x (prepared (command.Power choice) x d) b) (sym is.answer)
-      (subst (λ (e : Device). Performed (answer_of_marked_recovery is.tx_answer) e b)
-      (sym (prepared_marked choice d is.tx_answer))
-      (marked_recovery_plays program.image (powered choice d) b k k1 is.tx_answer refl is.redone))
+      (recovery_plays (policy_of marked) program.image (powered choice d) b k k1 is.tx_answer refl
+      is.recovered))
 
   bad_pick : (choice : Choice) (m : Mode) (line : ℕ) →
       commanded.Refused (answer.RefusedPick line) m d a n b k k1 →

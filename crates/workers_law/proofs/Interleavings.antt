@@ -7,6 +7,7 @@ use Rattle.pmem.specs.Device.{Device}
 use Rattle.pmem.specs.declared.answer.Refusal.TheVariants.{Off, Failed, NoMemory}
 use Rattle.pool_layout.specs.Sizes.{pool_lines}
 use Rattle.pm_machine.specs.declared.image.Image.{Image}
+use Rattle.pm_machine.specs.declared.records.Policy.TheVariants.{EndPool}
 use Rattle.tx_run.specs.Due.{due_call}
 use Rattle.pool_workers.specs.declared.answer.TurnAnswer.{TurnAnswer}
 use Rattle.pool_workers.specs.declared.answer.TurnAnswer.TheVariants as answer
@@ -36,7 +37,7 @@ module _ (image : Image) where
   waits_for : (s : Option TaskStart) (o : Option Task) (c : Cache) (k : Bool) →
       StandsFor image s o c → StandsFor image s o (fenced_cache k c)
   waits_for None o c k h = h
-  waits_for (Some s) None c k h = shows_fence k (due_call image s.tx s.args s.cache) [] s.cache c h
+  waits_for (Some s) None c k h = shows_fence k (due_call EndPool image s.tx s.args s.cache) [] s.cache c h
   waits_for (Some s) (Some t) c k h = (turns image s.tx s.args s.cache).2 t c k h
 
   goes_for : (s : Option TaskStart) (a : TurnAnswer) (t : Task) (o : Option Task) (d b : Device) →
@@ -48,12 +49,12 @@ module _ (image : Image) where
 
   some_shows : (s : TaskStart) (o : Option Task) (c : Cache) →
       StandsOr image s.tx s.args s.cache o c →
-      ShowsSome (due_call image s.tx s.args s.cache) s.cache c
+      ShowsSome (due_call EndPool image s.tx s.args s.cache) s.cache c
   some_shows s o c h = record { left = left_or image o c; shows = h }
 
   turned_shows : (s : TaskStart) (a : TurnAnswer) (t : Task) (o : Option Task) (d b : Device) →
       IsTask image t → TaskStands image s.tx s.args s.cache t d.cache → Turned a image t o d b →
-      ShowsSome (due_call image s.tx s.args s.cache) s.cache b.cache
+      ShowsSome (due_call EndPool image s.tx s.args s.cache) s.cache b.cache
   turned_shows s answer.Idle t o d b task h turned = absurd turned
   turned_shows s answer.Went t o d b task h turned =
       some_shows s o b.cache
@@ -117,10 +118,10 @@ module _ (image : Image) where
         (cases_eq j worker)
 
     shows : (j : ℕ) (s : TaskStart) → starts j ≡ Some s →
-        ShowsSome (due_call image s.tx s.args s.cache) s.cache (compartment image j b).cache
+        ShowsSome (due_call EndPool image s.tx s.args s.cache) s.cache (compartment image j b).cache
     shows j s is = ⊎_elim
         (λ (e : j ≡ worker). subst
-        (λ (i : ℕ). ShowsSome (due_call image s.tx s.args s.cache) s.cache
+        (λ (i : ℕ). ShowsSome (due_call EndPool image s.tx s.args s.cache) s.cache
         (compartment image i b).cache) (sym e)
         (turned_shows s a turn.task (task_at us worker) (compartment image worker d)
         (compartment image worker b) own_task
@@ -147,7 +148,7 @@ interleaving = (
       let h = shows image starts worker a ts us d b all turn j s is in (
         h,
         λ marks left im.
-            (shown_images (due_call image s.tx s.args s.cache) s.cache
+            (shown_images (due_call EndPool image s.tx s.args s.cache) s.cache
             (compartment image j b).cache marks).0 left h im,
       )),
 )

@@ -23,7 +23,7 @@ use Rattle.pmem.proofs.Refused.{all_cache}
 use Rattle.pool_layout.specs.declared.places.TheConstants.{DONE, SEAL, ARGUMENTS}
 use Rattle.pool_layout.specs.declared.limits.Sizes.{Sizes}
 use Rattle.pool_map.specs.declared.trap.TrapKind.TheVariants.{Steps}
-use Rattle.clobber_log.specs.Logs.{attempt_in, count_in}
+use Rattle.clobber_log.specs.Logs.{attempt_in}
 use Rattle.args_log.specs.Seal.{unsealed_events, seal_events}
 use Rattle.args_log.specs.Next.{number_after}
 use Rattle.args_log.specs.Retire.{retire_events, mark_events}
@@ -36,16 +36,18 @@ use Rattle.pm_machine.specs.declared.effect.Effect.TheVariants.{Fences, Quiet}
 use Rattle.pm_machine.specs.declared.effect.End.{End}
 use Rattle.pm_machine.specs.declared.effect.End.TheVariants.{Halted, Trapped}
 use Rattle.pm_machine.specs.declared.image.Image.{Image}
-use Rattle.pm_machine.specs.Effects.{events_of, records_past}
-use Rattle.pm_machine.specs.Machine.{State, StepOutcome, Goes, Ends, step}
-use Rattle.pm_machine.specs.Runs.{heap_in}
+use Rattle.pm_machine.specs.declared.records.Policy.TheVariants.{EndPool}
+use Rattle.pm_machine.specs.declared.machine.Machine.{Machine}
+use Rattle.pm_machine.specs.Effects.{events_of, events_all, records_past, heap_past}
+use Rattle.pm_machine.specs.Logging.{Logging, Turn, Plays, Stops, turn_of}
+use Rattle.pm_machine.specs.Runs.{heap_in, turn_events, logging_on}
 use Rattle.tx_run.specs.Due.{tail_events, due_seal}
 use Rattle.pool_workers.specs.declared.answer.TurnAnswer.{TurnAnswer}
 use Rattle.pool_workers.specs.declared.answer.TurnAnswer.TheVariants as answer
 use Rattle.pool_workers.specs.declared.task.Task.{Task}
 use Rattle.pool_workers.specs.declared.task.Task.TheVariants.{Begun, Running, Ending, Cut}
 use Rattle.workers_law.specs.Phases.{InPhase, TurnPhaseLaw}
-use Rattle.pool_workers.specs.Task.{going, stepped_task, events_in, task_phase, IsUncut, WentWhole}
+use Rattle.pool_workers.specs.Task.{machine_at, going, stepped_task, task_phase, IsUncut, WentWhole}
 use Rattle.pool_workers.specs.Task.{Turned}
 use Rattle.workers_law.proofs.Stands.{part_of}
 use Rattle.workers_law.specs.Fenced.{fenced_cache}
@@ -136,14 +138,25 @@ beside_effect z a n h (Flushes l) = ((λ e. let none : ⊥ = omega arith in none
 beside_effect z a n h Fences = (tt, tt)
 beside_effect z a n h Quiet = tt
 
-beside_step : (z : Sizes) (a n : ℕ) (h : Words) (o : StepOutcome) →
-    AreBeside (events_in (events_of z a n h) o)
-beside_step z a n h (Goes e t) = beside_effect z a n h e
-beside_step z a n h (Ends end) = tt
+beside_append : (es fs : List CacheEvent) → AreBeside es → AreBeside fs → AreBeside (es ++ fs)
+beside_append [] fs all more = more
+beside_append (e ∷ es) fs all more = (all.0, beside_append es fs all.1 more)
 
-beside_tail : (end : End) (c : Cache) → AreBeside (tail_events end c)
+beside_all : (z : Sizes) (a n : ℕ) (h : Words) (es : List Effect) →
+    AreBeside (events_all z a n h es)
+beside_all z a n h [] = tt
+beside_all z a n h (e ∷ es) =
+    beside_append (events_of z a n h e) (events_all z a (records_past n e) (heap_past h e) es)
+    (beside_effect z a n h e) (beside_all z a (records_past n e) (heap_past h e) es)
+
+beside_turn : (z : Sizes) (a : ℕ) (g : Logging) (h : Words) (x : Turn) →
+    AreBeside (turn_events z a g h x)
+beside_turn z a g h (Plays es f t) = beside_all z a g.count h es
+beside_turn z a g h (Stops end) = tt
+
+beside_tail : (z : Sizes) (end : End) (c : Cache) → AreBeside (tail_events EndPool z end c)
 unfolding retire_events mark_events
-beside_tail (Halted v) c = (
+beside_tail z (Halted v) c = (
   (λ e. let none : ⊥ = omega arith in none),
   (
     (λ e. let none : ⊥ = omega arith in none),
@@ -153,7 +166,7 @@ beside_tail (Halted v) c = (
     ),
   ),
 )
-beside_tail (Trapped k) c = (
+beside_tail z (Trapped k) c = (
   (λ e. let none : ⊥ = omega arith in none),
   ((λ e. let none : ⊥ = omega arith in none), (tt, tt)),
 )
@@ -196,19 +209,20 @@ few_args args = few ARGUMENTS args
     few (suc n) (x ∷ xs) = let h = few n xs in omega arith
 
 module _ (image : Image) (k : ℤ) where
-  going_phase : (s : State) (a n j : ℕ) (c : Cache) → seal.phase_of (c 5) k ≡ Sealed →
-      InPhase k (going s a n j) c
-  going_phase s a n j c is = by_test (j == 0)
+  going_phase : (m : Machine) (a j : ℕ) (c : Cache) → seal.phase_of (c 5) k ≡ Sealed →
+      InPhase k (going m a j) c
+  going_phase m a j c is = by_test (j == 0)
     where
       by_test : (b : Bool) →
-          InPhase k (if b then Ending (Trapped Steps) s.logged else Running s a n j) c
+          InPhase k (if b then Ending (Trapped Steps) (length m.records.words)
+          else Running m a j) c
       by_test true = is
       by_test false = is
 
-  stepped_phase : (a n j l : ℕ) (o : StepOutcome) (c : Cache) → seal.phase_of (c 5) k ≡ Sealed →
-      InPhase k (stepped_task a n j l o) c
-  stepped_phase a n j l (Goes e t) c is = going_phase t a (records_past n e) (j - 1) c is
-  stepped_phase a n j l (Ends end) c is = is
+  stepped_phase : (a j : ℕ) (g : Logging) (x : Turn) (c : Cache) →
+      seal.phase_of (c 5) k ≡ Sealed → InPhase k (stepped_task a j g x) c
+  stepped_phase a j g (Plays es h t) c is = going_phase (machine_at t h) a (j - 1) c is
+  stepped_phase a j g (Stops end) c is = is
 
   some_to : (t u : Task) (c : Cache) → Some u ≡ Some t → InPhase k t c → InPhase k u c
   some_to t u c is h = subst (λ (x : Task). InPhase k x c) (sym (ap (or_else t) is)) h
@@ -219,25 +233,25 @@ module _ (image : Image) (k : ℤ) where
 
   whole : (a : TurnAnswer) (t u : Task) (d b : Device) → IsUncut t → InPhase k t d.cache →
       WentWhole a image t (Some u) d b → InPhase k u b.cache
-  whole a (Begun tx args s) u d b uncut h went =
+  whole a (Begun tx args m) u d b uncut h went =
       let z = image.parts.sizes in
       let sealed : seal.phase_of (b.cache 5) k ≡ Sealed =
       sealed_law d b (cast_signed w64 tx) (take ARGUMENTS args) k (few_args args) h.0
       (subst (λ (x : ℤ). PlaysAll d (seal_events (cast_signed w64 tx) (take ARGUMENTS args) x) b)
       (sym h.1) went.2) in
       let c1 = play d.cache (due_seal tx args d.cache) in
-      some_to (going s (attempt_in z (view c1)) (count_in z (view c1)) image.parts.most) u b.cache
-      went.1 (going_phase s (attempt_in z (view c1))
-      (count_in z (view c1)) image.parts.most b.cache sealed)
-  whole a (Running s v n j) u d b uncut h went =
+      let left = machine_at m.processor (logging_on EndPool z c1) in
+      some_to (going left (attempt_in z (view c1)) image.parts.most) u b.cache went.1
+      (going_phase left (attempt_in z (view c1)) image.parts.most b.cache sealed)
+  whole a (Running m v j) u d b uncut h went =
       let z = image.parts.sizes in
-      let o = step image n s (heap_in z d.cache) in
-      let events = events_in (events_of z v n (heap_in z d.cache)) o in
+      let x = turn_of image m.records m.processor (heap_in z d.cache) in
+      let events = turn_events z v m.records (heap_in z d.cache) x in
       let sealed : seal.phase_of (b.cache 5) k ≡ Sealed =
       ap (λ (c : Cache). seal.phase_of (c 5) k) (all_cache events d b went.2)
-      ∙ sealed_play k events d.cache (beside_step z v n (heap_in z d.cache) o) h in
-      some_to (stepped_task v n j s.logged o) u b.cache went.1
-      (stepped_phase v n j s.logged o b.cache sealed)
+      ∙ sealed_play k events d.cache (beside_turn z v m.records (heap_in z d.cache) x) h in
+      some_to (stepped_task v j m.records x) u b.cache went.1
+      (stepped_phase v j m.records x b.cache sealed)
   whole a (Ending end l) u d b uncut h went = absurd (let is = went.1 in cc)
   whole a (Cut p) u d b uncut h went = absurd uncut
 
@@ -251,11 +265,11 @@ module _ (image : Image) (k : ℤ) where
 
   cut : (t : Task) (p : Phase) (d b : Device) → InPhase k t d.cache →
       Turned answer.Off image t (Some (Cut p)) d b → seal.phase_of (b.cache 5) k ≡ p
-  cut (Begun tx args s) Unsealed d b h turned =
+  cut (Begun tx args m) Unsealed d b h turned =
       unsealed_law d b (cast_signed w64 tx) (take ARGUMENTS args) k (few_args args) h.0
       (subst (λ (x : ℤ). PlaysPart Off d
       (unsealed_events (cast_signed w64 tx) (take ARGUMENTS args) x) b) (sym h.1) turned.1)
-  cut (Begun tx args s) Sealing d b h turned =
+  cut (Begun tx args m) Sealing d b h turned =
       sealing_law d b (cast_signed w64 tx) (take ARGUMENTS args) k (few_args args) h.0 (record {
         at_seal = turned.1.between;
         stored = subst (λ (x : ℤ). PlaysAll d
@@ -263,14 +277,15 @@ module _ (image : Image) (k : ℤ) where
             (sym h.1) turned.1.done;
         went = turned.1.went;
       })
-  cut (Begun tx args s) Sealed d b h turned = absurd turned.1
-  cut (Running s v n j) p d b h turned =
+  cut (Begun tx args m) Sealed d b h turned = absurd turned.1
+  cut (Running m v j) p d b h turned =
       let z = image.parts.sizes in
-      let o = step image n s (heap_in z d.cache) in
-      part_sealed (events_in (events_of z v n (heap_in z d.cache)) o) d b
-      (beside_step z v n (heap_in z d.cache) o) turned.0 h ∙ sym turned.1
+      let x = turn_of image m.records m.processor (heap_in z d.cache) in
+      part_sealed (turn_events z v m.records (heap_in z d.cache) x) d b
+      (beside_turn z v m.records (heap_in z d.cache) x) turned.0 h ∙ sym turned.1
   cut (Ending end l) p d b h turned =
-      part_sealed (tail_events end d.cache) d b (beside_tail end d.cache) turned.0 h
+      let z = image.parts.sizes in
+      part_sealed (tail_events EndPool z end d.cache) d b (beside_tail z end d.cache) turned.0 h
       ∙ sym turned.1
   cut (Cut q) p d b h turned = absurd turned.0
 
@@ -278,17 +293,17 @@ fence : (k : ℤ) (t : Task) (c : Cache) (f : Bool) → IsUncut t → InPhase k 
     InPhase k t (fenced_cache f c)
 unfolding apply
 fence k t c false uncut h = h
-fence k (Begun tx args s) c true uncut h = (
+fence k (Begun tx args m) c true uncut h = (
   (λ v version. h.0 v (fence_version c 5 v version)),
   h.1 ∙ ap number_after (sym (view_fence c DONE)),
 )
-fence k (Running s a n j) c true uncut h = sealed_fence k (c 5) h
+fence k (Running m a j) c true uncut h = sealed_fence k (c 5) h
 fence k (Ending end l) c true uncut h = sealed_fence k (c 5) h
 fence k (Cut p) c true uncut h = absurd uncut
 
 tells : (k : ℤ) (t : Task) (c : Cache) → InPhase k t c → seal.phase_of (c 5) k ≡ task_phase t
-tells k (Begun tx args s) c h = lacks_phase k (c 5) h.0
-tells k (Running s a n j) c h = h
+tells k (Begun tx args m) c h = lacks_phase k (c 5) h.0
+tells k (Running m a j) c h = h
 tells k (Ending end l) c h = h
 tells k (Cut p) c h = h
 

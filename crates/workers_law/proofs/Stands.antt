@@ -1,6 +1,6 @@
 -- A transaction turn by turn, with other workers' fences in between.
 use Rattle.std.proofs.Common.{◌≡◌, inl, inr, ℕ, zero, suc, ◌-◌, ◌<◌, if◌then◌else◌, Bool, true}
-use Rattle.std.proofs.Common.{false, List, [], ◌∷◌, ◌++◌, take, w64, ne_eqb, append_assoc}
+use Rattle.std.proofs.Common.{false, List, [], ◌∷◌, ◌++◌, length, take, w64, ne_eqb, append_assoc}
 use Rattle.std.proofs.Common.{append-nil, Option, ℤ, refl, sym, ap, ap₂, ◌∙◌, subst, arith}
 use Rattle.cache_model.specs.Event.{CacheEvent, Store, Flush, Fence}
 use Rattle.cache_model.specs.Cache.{Words, put, Cache, view}
@@ -16,6 +16,7 @@ use Rattle.pmem.proofs.Parts.{refused_cache}
 use Rattle.pool_layout.specs.declared.places.TheConstants.{DONE, ATTEMPT, ARGUMENTS}
 use Rattle.pool_layout.specs.declared.places.Place.TheVariants.{Heap}
 use Rattle.pool_layout.specs.Places.{at, pool_of}
+use Rattle.pool_layout.specs.declared.limits.Sizes.{Sizes}
 use Rattle.pool_map.specs.declared.trap.TrapKind.TheVariants.{Steps}
 use Rattle.clobber_log.specs.Logs.{attempt_in, count_in}
 use Rattle.args_log.specs.Next.{number_after}
@@ -26,66 +27,72 @@ use Rattle.pm_machine.specs.declared.effect.Effect.{Effect}
 use Rattle.pm_machine.specs.declared.effect.End.{End}
 use Rattle.pm_machine.specs.declared.effect.End.TheVariants.{Halted, Trapped}
 use Rattle.pm_machine.specs.declared.image.Image.{Image}
-use Rattle.pm_machine.specs.Effects.{events_of, records_past}
-use Rattle.pm_machine.specs.Machine.{State, StepOutcome, Goes, Ends, step, start}
-use Rattle.pm_machine.specs.Runs.{Due, heap_in, due, end_of, owing}
+use Rattle.pm_machine.specs.declared.records.Policy.TheVariants.{EndPool}
+use Rattle.pm_machine.specs.declared.machine.Machine.{Machine}
+use Rattle.pm_machine.specs.Effects.{events_all}
+use Rattle.pm_machine.specs.Logging.{Logging, Turn, Plays, Stops, turn_of}
+use Rattle.pm_machine.specs.Machine.{State, start}
+use Rattle.pm_machine.specs.Runs.{Due, heap_in, due, end_of, owing, turn_events, played, logging_on}
 use Rattle.tx_run.specs.Due.{tail_events, due_run, due_seal, due_call}
 use Rattle.crash_law.specs.Law.{IsAtRest, IsFenced, Empty, Kept, Added}
 use Rattle.crash_law.proofs.Fences.{fences_add_none}
 use Rattle.pool_workers.specs.declared.answer.TurnAnswer.{TurnAnswer}
 use Rattle.pool_workers.specs.declared.task.Task.{Task}
 use Rattle.pool_workers.specs.declared.task.Task.TheVariants.{Begun, Running, Ending, Cut}
-use Rattle.pool_workers.specs.Task.{going, stepped_task, events_in, piece_of, task_past, IsTask}
-use Rattle.pool_workers.specs.Task.{WentWhole}
+use Rattle.pool_workers.specs.Task.{machine_at, first_machine, going, stepped_task, piece_of}
+use Rattle.pool_workers.specs.Task.{task_past, IsTask, WentWhole}
 use Rattle.workers_law.specs.Standing.{ShowsPlayed, ShowsSome, TaskStands, StandsOr, LeftLaw}
 use Rattle.workers_law.specs.Standing.{SameViewLaw, TurnsLaw, ShownImagesLaw}
 use Rattle.workers_law.specs.Fenced.{fenced_cache}
 use Rattle.workers_law.specs.Left.{run_left, left_of, left_or}
 use Rattle.workers_law.proofs.Powers.{fenced_view}
 
-going_left : (image : Image) (s : State) (a n k : ℕ) (c : Cache) →
-    left_of image (going s a n k) c ≡ run_left image s a n k c
-going_left image s a n zero c = refl
-going_left image s a n (suc k) c =
+going_left : (image : Image) (m : Machine) (a k : ℕ) (c : Cache) →
+    left_of image (going m a k) c ≡ run_left image a k m.records m.processor c
+going_left image m a zero c = refl
+going_left image m a (suc k) c =
     ap (λ (b : Bool). left_of image
-    (if b then Ending (Trapped Steps) s.logged else Running s a n (suc k)) c)
+    (if b then Ending (Trapped Steps) (length m.records.words) else Running m a (suc k)) c)
     (ne_eqb (suc k) 0 (λ e. let none : ⊥ = omega arith in none))
 
-step_left : (image : Image) (s : State) (a n k : ℕ) (c : Cache) (o : StepOutcome) (l : ℕ) →
-    let x = owing n (events_of image.parts.sizes a n (heap_in image.parts.sizes c))
-    (λ e t. due image a k (records_past n e) t
-    (play c (events_of image.parts.sizes a n (heap_in image.parts.sizes c) e))) o in
-    let piece = events_in (events_of image.parts.sizes a n (heap_in image.parts.sizes c)) o in
-    x.events ++ tail_events (end_of x.fate) (play c x.events) ≡ piece
-    ++ left_of image (stepped_task a n (suc k) l o) (play c piece)
-step_left image s a n k c (Ends end) l = refl
-step_left image s a n k c (Goes e t) l =
-    let events = events_of image.parts.sizes a n (heap_in image.parts.sizes c) e in
-    let x = due image a k (records_past n e) t (play c events) in
-    append_assoc events x.events (tail_events (end_of x.fate) (play c (events ++ x.events)))
-    ∙ ap (λ (d : Cache). events ++ (x.events ++ tail_events (end_of x.fate) d))
+turn_left : (image : Image) (a k : ℕ) (g : Logging) (c : Cache) (x : Turn) →
+    let z = image.parts.sizes in
+    let y = owing z a g (heap_in z c) (λ es h t. due image a k h t (played z a g c es)) x in
+    let piece = turn_events z a g (heap_in z c) x in
+    y.events ++ tail_events EndPool z (end_of y.fate) (play c y.events)
+    ≡ piece ++ left_of image (stepped_task a (suc k) g x) (play c piece)
+turn_left image a k g c (Stops end) = refl
+turn_left image a k g c (Plays es h t) =
+    let z = image.parts.sizes in
+    let events = events_all z a g.count (heap_in z c) es in
+    let x = due image a k h t (play c events) in
+    append_assoc events x.events
+    (tail_events EndPool z (end_of x.fate) (play c (events ++ x.events)))
+    ∙ ap (λ (d : Cache). events ++ (x.events ++ tail_events EndPool z (end_of x.fate) d))
     (play_append c events x.events)
-    ∙ ap (λ (es : List CacheEvent). events ++ es)
-    (sym (going_left image t a (records_past n e) k (play c events))
-    ∙ ap (λ (j : ℕ). left_of image (going t a (records_past n e) j) (play c events)) (pred k))
+    ∙ ap (λ (fs : List CacheEvent). events ++ fs)
+    (sym (going_left image (machine_at t h) a k (play c events))
+    ∙ ap (λ (j : ℕ). left_of image (going (machine_at t h) a j) (play c events)) (pred k))
   where
     pred : (j : ℕ) → j ≡ suc j - 1
     pred j = omega arith
 
 pub left_next : LeftLaw
 unfolding due_call
-left_next image (Begun tx args s) c task =
-    ap (λ (x : State). due_seal tx args c ++ due_run image x (play c (due_seal tx args c)))
-    (sym task)
+left_next image (Begun tx args m) c task =
+    let c1 = play c (due_seal tx args c) in
+    let z = image.parts.sizes in
+    ap (λ (x : Machine). due_seal tx args c ++ due_run EndPool image x.processor c1) (sym task)
     ∙ ap (λ (es : List CacheEvent). due_seal tx args c ++ es)
-    (sym (going_left image s (attempt_in image.parts.sizes (view (play c (due_seal tx args c))))
-    (count_in image.parts.sizes (view (play c (due_seal tx args c)))) image.parts.most
-    (play c (due_seal tx args c))))
-left_next image (Running s a n zero) c task =
-    absurd (let h : 0 < 0 = task.4 in let no : ⊥ = omega arith in no)
-left_next image (Running s a n (suc k)) c task =
-    step_left image s a n k c (step image n s (heap_in image.parts.sizes c)) s.logged
-left_next image (Ending end l) c task = sym (append-nil (tail_events end c))
+    (sym (going_left image (machine_at m.processor (logging_on EndPool z c1))
+    (attempt_in z (view c1)) image.parts.most c1))
+left_next image (Running m a zero) c task =
+    absurd (let h : 0 < 0 = task.2 in let no : ⊥ = omega arith in no)
+left_next image (Running m a (suc k)) c task =
+    turn_left image a k m.records c
+    (turn_of image m.records m.processor (heap_in image.parts.sizes c))
+left_next image (Ending end l) c task =
+    sym (append-nil (tail_events EndPool image.parts.sizes end c))
 left_next image (Cut p) c task = refl
 
 -- only the newest versions matter
@@ -103,38 +110,35 @@ pub same_play : (es : List CacheEvent) (c d : Cache) → view c ≡ view d →
 same_play [] c d same = same
 same_play (e ∷ es) c d same = same_play es (apply c e) (apply d e) (same_apply c d e same)
 
-same_tail : (end : End) (c d : Cache) → view c ≡ view d → tail_events end c ≡ tail_events end d
-same_tail (Halted v) c d same =
+same_tail : (z : Sizes) (end : End) (c d : Cache) → view c ≡ view d →
+    tail_events EndPool z end c ≡ tail_events EndPool z end d
+same_tail z (Halted v) c d same =
     ap (λ (w : Words). retire_events v (number_after (w DONE)) (number_after (w ATTEMPT))) same
-same_tail (Trapped k) c d same = refl
+same_tail z (Trapped k) c d same = refl
 
-pub same_due : (image : Image) (a k n : ℕ) (s : State) (c d : Cache) → view c ≡ view d →
-    due image a k n s c ≡ due image a k n s d
-same_due image a zero n s c d same = refl
-same_due image a (suc k) n s c d same =
+pub same_due : (image : Image) (a k : ℕ) (g : Logging) (s : State) (c d : Cache) →
+    view c ≡ view d → due image a k g s c ≡ due image a k g s d
+same_due image a zero g s c d same = refl
+same_due image a (suc k) g s c d same =
     let z = image.parts.sizes in
     let heap : heap_in z c ≡ heap_in z d = λ i w. same i (at (pool_of z) (Heap w)) in
-    let events : (e : Effect) →
-    events_of z a n (heap_in z c) e ≡ events_of z a n (heap_in z d) e =
-    λ e i. events_of z a n (heap i) e in
-    let rest : (e : Effect) (t : State) →
-    due image a k (records_past n e) t (play c (events_of z a n (heap_in z c) e))
-    ≡ due image a k (records_past n e) t (play d (events_of z a n (heap_in z d) e)) =
-    λ e t. same_due image a k (records_past n e) t (play c (events_of z a n (heap_in z c) e))
-    (play d (events_of z a n (heap_in z d) e))
-    (same_play (events_of z a n (heap_in z c) e) c d same
-    ∙ ap (λ (es : List CacheEvent). view (play d es)) (events e)) in
-    λ i. owing n (λ e. events e i) (λ e t. rest e t i) (step image n s (heap i))
+    let rest : (es : List Effect) (h : Logging) (t : State) →
+    due image a k h t (played z a g c es) ≡ due image a k h t (played z a g d es) =
+    λ es h t. same_due image a k h t (played z a g c es) (played z a g d es)
+    (same_play (events_all z a g.count (heap_in z c) es) c d same
+    ∙ ap (λ (v : Words). view (play d (events_all z a g.count v es))) heap) in
+    λ i. owing z a g (heap i) (λ es h t. rest es h t i) (turn_of image g s (heap i))
 
-same_run : (image : Image) (s : State) (a n k : ℕ) (c d : Cache) → view c ≡ view d →
-    run_left image s a n k c ≡ run_left image s a n k d
-same_run image s a n k c d same =
-    let x = due image a k n s c in
+same_run : (image : Image) (a k : ℕ) (g : Logging) (s : State) (c d : Cache) → view c ≡ view d →
+    run_left image a k g s c ≡ run_left image a k g s d
+same_run image a k g s c d same =
+    let z = image.parts.sizes in
+    let x = due image a k g s c in
     ap (λ (es : List CacheEvent). x.events ++ es)
-    (same_tail (end_of x.fate) (play c x.events) (play d x.events)
+    (same_tail z (end_of x.fate) (play c x.events) (play d x.events)
     (same_play x.events c d same))
-    ∙ ap (λ (y : Due). y.events ++ tail_events (end_of y.fate) (play d y.events))
-    (same_due image a k n s c d same)
+    ∙ ap (λ (y : Due). y.events ++ tail_events EndPool z (end_of y.fate) (play d y.events))
+    (same_due image a k g s c d same)
 
 pub same_seal : (tx : ℕ) (args : List ℤ) (c d : Cache) → view c ≡ view d →
     due_seal tx args c ≡ due_seal tx args d
@@ -143,7 +147,7 @@ same_seal tx args c d same =
     (number_after (w DONE))) same
 
 same_call : (image : Image) (tx : ℕ) (args : List ℤ) (c d : Cache) → view c ≡ view d →
-    due_call image tx args c ≡ due_call image tx args d
+    due_call EndPool image tx args c ≡ due_call EndPool image tx args d
 unfolding due_call
 same_call image tx args c d same =
     let z = image.parts.sizes in
@@ -155,15 +159,15 @@ same_call image tx args c d same =
     let c1 = play c (due_seal tx args c) in
     let d1 = play d (due_seal tx args d) in
     ap₂ (λ (es fs : List CacheEvent). es ++ fs) seal
-    (same_run image s (attempt_in z (view c1))
-    (count_in z (view c1)) image.parts.most c1 d1 after_seal
-    ∙ ap (λ (w : Words). run_left image s (attempt_in z w) (count_in z w) image.parts.most d1)
-    after_seal)
+    (same_run image (attempt_in z (view c1)) image.parts.most (logging_on EndPool z c1) s c1 d1
+    after_seal
+    ∙ ap (λ (w : Words). run_left image (attempt_in z w) image.parts.most
+    (record { policy = EndPool; count = count_in z w; words = [] }) s d1) after_seal)
 
 pub same_left : SameViewLaw
-same_left image (Begun tx args s) c d same = same_call image tx args c d same
-same_left image (Running s a n k) c d same = same_run image s a n k c d same
-same_left image (Ending end l) c d same = same_tail end c d same
+same_left image (Begun tx args m) c d same = same_call image tx args c d same
+same_left image (Running m a k) c d same = same_run image a k m.records m.processor c d same
+same_left image (Ending end l) c d same = same_tail image.parts.sizes end c d same
 same_left image (Cut p) c d same = refl
 
 -- fences put in
@@ -229,7 +233,7 @@ part_of why (e ∷ es) d b (inr part) =
     }
 
 module _ (image : Image) (tx : ℕ) (args : List ℤ) (c0 : Cache) where
-  begins : TaskStands image tx args c0 (Begun tx args (start image tx args)) c0
+  begins : TaskStands image tx args c0 (Begun tx args (first_machine image tx args)) c0
   begins = record { done = []; shown = []; due_is = refl; fenced = Empty; now_is = refl }
 
   goes : (a : TurnAnswer) (t : Task) (o : Option Task) (d b : Device) → IsTask image t →
@@ -241,7 +245,7 @@ module _ (image : Image) (tx : ℕ) (args : List ℤ) (c0 : Cache) where
       let rest : left_or image (task_past image t d.cache)
       (play d.cache (piece_of image t d.cache)) ≡ left_or image o b.cache =
       ap₂ (left_or image) (sym went.1) (sym now) in
-      shows_more (due_call image tx args c0) (left_of image t d.cache) (piece_of image t d.cache)
+      shows_more (due_call EndPool image tx args c0) (left_of image t d.cache) (piece_of image t d.cache)
       (left_or image o b.cache) c0 d.cache b.cache s
       (left_next image t d.cache task
       ∙ ap (λ (es : List CacheEvent). piece_of image t d.cache ++ es) rest) now
@@ -250,29 +254,29 @@ module _ (image : Image) (tx : ℕ) (args : List ℤ) (c0 : Cache) where
       TaskStands image tx args c0 t (fenced_cache k c)
   waits t c k s =
       subst (λ (es : List CacheEvent).
-      ShowsPlayed (due_call image tx args c0) es c0 (fenced_cache k c))
+      ShowsPlayed (due_call EndPool image tx args c0) es c0 (fenced_cache k c))
       (same_left image t c (fenced_cache k c) (sym (fenced_view k c)))
-      (shows_fence k (due_call image tx args c0) (left_of image t c) c0 c s)
+      (shows_fence k (due_call EndPool image tx args c0) (left_of image t c) c0 c s)
 
   stops : (why : Refusal) (t : Task) (d b : Device) → IsTask image t →
       TaskStands image tx args c0 t d.cache → PlaysPart why d (piece_of image t d.cache) b →
-      ShowsSome (due_call image tx args c0) c0 b.cache
+      ShowsSome (due_call EndPool image tx args c0) c0 b.cache
   stops why t d b task s part =
       let p = part_of why (piece_of image t d.cache) d b part in
       let after = left_or image (task_past image t d.cache)
       (play d.cache (piece_of image t d.cache)) in
       record {
         left = p.rest ++ after;
-        shows = shows_more (due_call image tx args c0) (left_of image t d.cache) p.first
+        shows = shows_more (due_call EndPool image tx args c0) (left_of image t d.cache) p.first
             (p.rest ++ after) c0 d.cache b.cache s
             (left_next image t d.cache task ∙ ap (λ (es : List CacheEvent). es ++ after) p.is
             ∙ append_assoc p.first p.rest after) p.now;
       }
 
-  stays : (c : Cache) (k : Bool) → ShowsSome (due_call image tx args c0) c0 c →
-      ShowsSome (due_call image tx args c0) c0 (fenced_cache k c)
+  stays : (c : Cache) (k : Bool) → ShowsSome (due_call EndPool image tx args c0) c0 c →
+      ShowsSome (due_call EndPool image tx args c0) c0 (fenced_cache k c)
   stays c k s = record
-      { left = s.left; shows = shows_fence k (due_call image tx args c0) s.left c0 c s.shows }
+      { left = s.left; shows = shows_fence k (due_call EndPool image tx args c0) s.left c0 c s.shows }
 
 pub turns : TurnsLaw
 turns image tx args c0 = (

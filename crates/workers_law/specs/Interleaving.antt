@@ -6,6 +6,7 @@ use Rattle.cache_model.specs.Cache.{Words, Cache}
 use Rattle.cache_model.specs.Image.{IsImage}
 use Rattle.pmem.specs.Device.{Device}
 use Rattle.pm_machine.specs.declared.image.Image.{Image}
+use Rattle.pm_machine.specs.declared.records.Policy.TheVariants.{EndPool}
 use Rattle.tx_run.specs.Due.{due_call}
 use Rattle.crash_law.specs.Law.{IsLeft, AreMarked}
 use Rattle.pool_workers.specs.declared.answer.TurnAnswer.{TurnAnswer}
@@ -51,6 +52,6 @@ InterleavingLaw =
     (ts us : Tasks) (d b : Device) →
     AllStand image starts ts d → TurnOf image worker answer ts us d b →
     (j : ℕ) (s : TaskStart) → starts j ≡ Some s →
-    ShowsSome (due_call image s.tx s.args s.cache) s.cache (compartment image j b).cache
+    ShowsSome (due_call EndPool image s.tx s.args s.cache) s.cache (compartment image j b).cache
     × (AreMarked s.cache → (left : Words) → IsImage (compartment image j b).cache left →
-    IsLeft s.cache (due_call image s.tx s.args s.cache) left))
+    IsLeft s.cache (due_call EndPool image s.tx s.args s.cache) left))

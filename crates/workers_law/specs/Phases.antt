@@ -9,18 +9,17 @@ use Rattle.args_log.specs.Next.{number_after}
 use Rattle.args_log.specs.Phase as seal
 use Rattle.args_log.specs.PhaseLaw.{LacksSeal}
 use Rattle.pm_machine.specs.declared.image.Image.{Image}
-use Rattle.pm_machine.specs.Machine.{start}
 use Rattle.pool_workers.specs.declared.answer.TurnAnswer.{TurnAnswer}
 use Rattle.pool_workers.specs.declared.answer.TurnAnswer.TheVariants as answer
 use Rattle.pool_workers.specs.declared.task.Task.{Task}
 use Rattle.pool_workers.specs.declared.task.Task.TheVariants.{Begun, Running, Ending, Cut}
-use Rattle.pool_workers.specs.Task.{task_phase, IsUncut, WentWhole, Turned}
+use Rattle.pool_workers.specs.Task.{first_machine, task_phase, IsUncut, WentWhole, Turned}
 use Rattle.workers_law.specs.Fenced.{fenced_cache}
 
 -- the seal of call k in the cache of a compartment, as the transaction knows it
 abbrev pub InPhase : ℤ → Task → Cache → Type 0
-InPhase k (Begun tx args s) c = LacksSeal k (c 5) × (k ≡ number_after (view c DONE))
-InPhase k (Running s a n left) c = seal.phase_of (c 5) k ≡ Sealed
+InPhase k (Begun tx args m) c = LacksSeal k (c 5) × (k ≡ number_after (view c DONE))
+InPhase k (Running m a left) c = seal.phase_of (c 5) k ≡ Sealed
 InPhase k (Ending end l) c = seal.phase_of (c 5) k ≡ Sealed
 InPhase k (Cut p) c = seal.phase_of (c 5) k ≡ p
 
@@ -31,7 +30,7 @@ abbrev pub TurnPhaseLaw : Type 0
 TurnPhaseLaw =
     ((image : Image) (k : ℤ) (tx : ℕ) (args : List ℤ) (c : Cache) →
     LacksSeal k (c 5) → k ≡ number_after (view c DONE) →
-    InPhase k (Begun tx args (start image tx args)) c)
+    InPhase k (Begun tx args (first_machine image tx args)) c)
     × ((image : Image) (k : ℤ) (a : TurnAnswer) (t u : Task) (d b : Device) →
     IsUncut t → InPhase k t d.cache → WentWhole a image t (Some u) d b → InPhase k u b.cache)
     × ((k : ℤ) (t : Task) (c : Cache) (fenced : Bool) → IsUncut t → InPhase k t c →

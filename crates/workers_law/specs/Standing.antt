@@ -9,13 +9,13 @@ use Rattle.pmem.specs.Device.{Device}
 use Rattle.pmem.specs.Played.{PlaysPart}
 use Rattle.pmem.specs.declared.answer.Refusal.{Refusal}
 use Rattle.pm_machine.specs.declared.image.Image.{Image}
-use Rattle.pm_machine.specs.Machine.{start}
+use Rattle.pm_machine.specs.declared.records.Policy.TheVariants.{EndPool}
 use Rattle.tx_run.specs.Due.{due_call}
 use Rattle.crash_law.specs.Law.{IsAtRest, IsLeft, IsFenced, AreMarked}
 use Rattle.pool_workers.specs.declared.answer.TurnAnswer.{TurnAnswer}
 use Rattle.pool_workers.specs.declared.task.Task.{Task}
 use Rattle.pool_workers.specs.declared.task.Task.TheVariants.{Begun}
-use Rattle.pool_workers.specs.Task.{piece_of, task_past, IsTask, WentWhole}
+use Rattle.pool_workers.specs.Task.{first_machine, piece_of, task_past, IsTask, WentWhole}
 use Rattle.workers_law.specs.Fenced.{fenced_cache}
 use Rattle.workers_law.specs.Left.{left_of, left_or}
 
@@ -36,10 +36,10 @@ pub record ShowsSome (due : List CacheEvent) (start now : Cache) : Type 0 where
 -- A transaction that began on cache c0 is now t, on cache c: some of its due list was played, and
 -- the rest is what t has left.
 abbrev pub TaskStands : Image → (tx : ℕ) → List ℤ → (c0 : Cache) → Task → (c : Cache) → Type 0
-TaskStands image tx args c0 t c = ShowsPlayed (due_call image tx args c0) (left_of image t c) c0 c
+TaskStands image tx args c0 t c = ShowsPlayed (due_call EndPool image tx args c0) (left_of image t c) c0 c
 
 abbrev pub StandsOr : Image → (tx : ℕ) → List ℤ → (c0 : Cache) → Option Task → (c : Cache) → Type 0
-StandsOr image tx args c0 o c = ShowsPlayed (due_call image tx args c0) (left_or image o c) c0 c
+StandsOr image tx args c0 o c = ShowsPlayed (due_call EndPool image tx args c0) (left_or image o c) c0 c
 
 -- What a transaction has left is its next piece, followed by what it has left after that.
 abbrev pub LeftLaw : Type 0
@@ -61,7 +61,7 @@ SameViewLaw =
 abbrev pub TurnsLaw : Type 0
 TurnsLaw =
     (image : Image) (tx : ℕ) (args : List ℤ) (c0 : Cache) →
-    TaskStands image tx args c0 (Begun tx args (start image tx args)) c0
+    TaskStands image tx args c0 (Begun tx args (first_machine image tx args)) c0
     × ((a : TurnAnswer) (t : Task) (o : Option Task) (d b : Device) →
     IsTask image t → TaskStands image tx args c0 t d.cache → WentWhole a image t o d b →
     StandsOr image tx args c0 o b.cache)
@@ -70,9 +70,9 @@ TurnsLaw =
     × ((why : Refusal) (t : Task) (d b : Device) →
     IsTask image t → TaskStands image tx args c0 t d.cache →
     PlaysPart why d (piece_of image t d.cache) b →
-    ShowsSome (due_call image tx args c0) c0 b.cache)
-    × ((c : Cache) (k : Bool) → ShowsSome (due_call image tx args c0) c0 c →
-    ShowsSome (due_call image tx args c0) c0 (fenced_cache k c))
+    ShowsSome (due_call EndPool image tx args c0) c0 b.cache)
+    × ((c : Cache) (k : Bool) → ShowsSome (due_call EndPool image tx args c0) c0 c →
+    ShowsSome (due_call EndPool image tx args c0) c0 (fenced_cache k c))
 
 -- So each image of the compartment is one that a cut of the due list may leave. After the whole
 -- list each image is one of those after it, the compartment is at rest if the list alone would

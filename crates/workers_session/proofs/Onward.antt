@@ -11,6 +11,7 @@ use Rattle.pool_layout.specs.declared.places.TheConstants.{MARK}
 use Rattle.pool_layout.proofs.Records.{decided}
 use Rattle.pool_layout.specs.Image.{is_sealed}
 use Rattle.pm_machine.specs.declared.image.Image.{Image}
+use Rattle.pm_machine.specs.declared.records.Policy.{Policy}
 use Rattle.recovery.specs.Found.{names_tx}
 use Rattle.recovery.specs.Recovered.{Cleaned, Redid, IsRecovered, numbers_out, tx_in}
 use Rattle.recovery.specs.declared.answer.RecoverAnswer.{RecoverAnswer}
@@ -50,32 +51,35 @@ cleaned_on recovered.Failed d es b h e = absurd cc
 cleaned_on recovered.NoMemory d es b h e = absurd cc
 cleaned_on (recovered.Redone v l) d es b h e = absurd h
 cleaned_on (recovered.Trap t) d es b h e = absurd h
+cleaned_on (recovered.Aborted t) d es b h e = absurd h
 cleaned_on (recovered.Unusable t) d es b h e = absurd h
 cleaned_on recovered.Numbers d es b h e = absurd h
 
-redid_on : (r : RecoverAnswer) (image : Image) (tx : ℕ) (args : List ℤ) (n : ℕ) (d b : Device)
-    (k k1 : ℕ) → Redid r image tx args n d b k k1 → ends_power r ≡ false → b.on ≡ d.on
-redid_on (recovered.Redone v l) image tx args n d b k k1 h e = all_on _ d b h.0.played
-redid_on (recovered.Trap t) image tx args n d b k k1 h e = all_on _ d b h.played
-redid_on (recovered.Off phase.Sealed) image tx args n d b k k1 h e = absurd cc
-redid_on (recovered.Off phase.Unsealed) image tx args n d b k k1 h e = absurd h
-redid_on (recovered.Off phase.Sealing) image tx args n d b k k1 h e = absurd h
-redid_on recovered.Failed image tx args n d b k k1 h e = absurd cc
-redid_on recovered.NoMemory image tx args n d b k k1 h e = absurd cc
-redid_on recovered.Clean image tx args n d b k k1 h e = absurd h
-redid_on (recovered.Unusable t) image tx args n d b k k1 h e = absurd h
-redid_on recovered.Numbers image tx args n d b k k1 h e = absurd h
+redid_on : (r : RecoverAnswer) (p : Policy) (image : Image) (tx : ℕ) (args : List ℤ) (n : ℕ)
+    (d b : Device) (k k1 : ℕ) → Redid r p image tx args n d b k k1 → ends_power r ≡ false →
+    b.on ≡ d.on
+redid_on (recovered.Redone v l) p image tx args n d b k k1 h e = all_on _ d b h.0.played
+redid_on (recovered.Trap t) p image tx args n d b k k1 h e = all_on _ d b h.1.played
+redid_on (recovered.Aborted t) p image tx args n d b k k1 h e = all_on _ d b h.1.played
+redid_on (recovered.Off phase.Sealed) p image tx args n d b k k1 h e = absurd cc
+redid_on (recovered.Off phase.Unsealed) p image tx args n d b k k1 h e = absurd h
+redid_on (recovered.Off phase.Sealing) p image tx args n d b k k1 h e = absurd h
+redid_on recovered.Failed p image tx args n d b k k1 h e = absurd cc
+redid_on recovered.NoMemory p image tx args n d b k k1 h e = absurd cc
+redid_on recovered.Clean p image tx args n d b k k1 h e = absurd h
+redid_on (recovered.Unusable t) p image tx args n d b k k1 h e = absurd h
+redid_on recovered.Numbers p image tx args n d b k k1 h e = absurd h
 
 same_on : (d b : Device) → b ≡ d → b.on ≡ d.on
 same_on d b e = ap (λ (x : Device). x.on) e
 
-module _ (r : RecoverAnswer) (image : Image) (d b : Device) (k k1 : ℕ)
-    (h : IsRecovered r image d b k k1) (goes : ends_power r ≡ false) where
+module _ (r : RecoverAnswer) (p : Policy) (image : Image) (d b : Device) (k k1 : ℕ)
+    (h : IsRecovered r p image d b k k1) (goes : ends_power r ≡ false) where
   by_record : (named : Bool) → d.on ≡ true → view d.cache MARK ≡ pos 0 → numbers_out image d ≡ false
       → is_sealed (view d.cache) ≡ true
       → names_tx image (tx_in d) ≡ named → b.on ≡ d.on
   by_record true on mark fit sealed named =
-      redid_on r image _ _ _ d b k k1 (h.redid on mark fit sealed named) goes
+      redid_on r p image _ _ _ d b k k1 (h.redid on mark fit sealed named) goes
   by_record false on mark fit sealed named =
       same_on d b (h.unnamed on mark fit sealed named).1
 

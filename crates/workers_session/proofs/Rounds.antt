@@ -5,46 +5,48 @@ use Rattle.cache_model.specs.Cache.{Cache, view}
 use Rattle.cache_model.specs.Play.{play}
 use Rattle.pmem.specs.Device.{Device}
 use Rattle.pm_machine.specs.declared.image.Image.{Image}
-use Rattle.pm_machine.specs.Effects.{records_past}
-use Rattle.pm_machine.specs.Machine.{State, StepOutcome, Goes, Ends, step}
-use Rattle.pm_machine.specs.Runs.{heap_in}
-use Rattle.clobber_log.specs.Logs.{attempt_in, count_in}
+use Rattle.pm_machine.specs.declared.machine.Machine.{Machine}
+use Rattle.pm_machine.specs.declared.records.Policy.TheVariants.{EndPool}
+use Rattle.pm_machine.specs.Logging.{Logging, Turn, Plays, Stops, turn_of}
+use Rattle.pm_machine.specs.Runs.{heap_in, logging_on}
+use Rattle.clobber_log.specs.Logs.{attempt_in}
 use Rattle.tx_run.specs.Due.{due_seal}
 use Rattle.pool_workers.specs.declared.answer.TurnAnswer.{TurnAnswer}
 use Rattle.pool_workers.specs.declared.answer.TurnAnswer.TheVariants as turned
 use Rattle.pool_workers.specs.declared.task.Task.{Task}
 use Rattle.pool_workers.specs.declared.task.Task.TheVariants.{Begun, Running, Ending, Cut}
-use Rattle.pool_workers.specs.Task.{going, stepped_task, task_past, Turned, IsTask, IsTaskOr}
-use Rattle.pool_workers.specs.Task.{IsUncut, IsUncutOr}
+use Rattle.pool_workers.specs.Task.{machine_at, going, stepped_task, task_past, Turned, IsTask}
+use Rattle.pool_workers.specs.Task.{IsTaskOr, IsUncut, IsUncutOr}
 use Rattle.pool_workers.specs.Crew.{Tasks, task_at, AreTasks, OtherTasksStay}
 use Rattle.workers_session.specs.WorkersCommands.{is_interrupted}
 use Rattle.workers_session.specs.inside.Turning.{turns_of, turns_left, turns_in, busy_one}
 use Rattle.workers_session.specs.inside.Turning.{busy_first}
 
-going_most : (m : ℕ) (s : State) (a n k : ℕ) → turns_of m (going s a n k) ≤ k + 1
-going_most m s a n zero =
-    let same : turns_of m (going s a n zero) ≡ 1 = refl in omega arith
-going_most m s a n (suc k) =
-    let same : turns_of m (going s a n (suc k)) ≡ suc k + 1 =
+going_most : (most : ℕ) (m : Machine) (a k : ℕ) → turns_of most (going m a k) ≤ k + 1
+going_most most m a zero =
+    let same : turns_of most (going m a zero) ≡ 1 = refl in omega arith
+going_most most m a (suc k) =
+    let same : turns_of most (going m a (suc k)) ≡ suc k + 1 =
     rw (ne_eqb (suc k) 0 (λ e. omega arith)) refl in
     omega arith
 
-stepped_most : (m a n k l : ℕ) (o : StepOutcome) → 0 < k →
-    turns_of m (stepped_task a n k l o) < k + 1
-stepped_most m a n k l (Goes e t) more =
-    let most = going_most m t a (records_past n e) (k - 1) in omega arith
-stepped_most m a n k l (Ends end) more = omega arith
+stepped_most : (most a k : ℕ) (g : Logging) (x : Turn) → 0 < k →
+    turns_of most (stepped_task a k g x) < k + 1
+stepped_most most a k g (Plays es h t) more =
+    let few = going_most most (machine_at t h) a (k - 1) in omega arith
+stepped_most most a k g (Stops end) more = omega arith
 
 past_less : (image : Image) (t : Task) (c : Cache) → IsTask image t → IsUncut t →
     turns_left image.parts.most (task_past image t c) + 1 ≤ turns_of image.parts.most t
-past_less image (Begun tx args s) c is uncut =
-    let now = view (play c (due_seal tx args c)) in
-    let most = going_most image.parts.most s (attempt_in image.parts.sizes now)
-    (count_in image.parts.sizes now) image.parts.most in
+past_less image (Begun tx args m) c is uncut =
+    let now = play c (due_seal tx args c) in
+    let most = going_most image.parts.most
+    (machine_at m.processor (logging_on EndPool image.parts.sizes now))
+    (attempt_in image.parts.sizes (view now)) image.parts.most in
     omega arith
-past_less image (Running s a n k) c is uncut =
-    let less = stepped_most image.parts.most a n k s.logged
-    (step image n s (heap_in image.parts.sizes c)) is.4 in
+past_less image (Running m a k) c is uncut =
+    let less = stepped_most image.parts.most a k m.records
+    (turn_of image m.records m.processor (heap_in image.parts.sizes c)) is.2 in
     omega arith
 past_less image (Ending end l) c is uncut = omega arith
 past_less image (Cut p) c is uncut = absurd uncut

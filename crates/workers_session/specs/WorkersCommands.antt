@@ -9,6 +9,7 @@ use Rattle.cache_model.specs.declared.choice.Choice.{Choice}
 use Rattle.pmem.specs.Device.{Device, memory_of, powered, with_left, with_armed}
 use Rattle.pool_layout.specs.declared.places.TheConstants.{LAST, DONE}
 use Rattle.pm_machine.specs.declared.image.Image.{Image}
+use Rattle.pm_machine.specs.declared.records.Policy.TheVariants.{EndPool}
 use Rattle.tx_run.specs.declared.standing.Standing.{Standing}
 use Rattle.tx_run.specs.declared.standing.Standing.TheVariants as stands
 use Rattle.recovery.specs.declared.answer.RecoverAnswer.{RecoverAnswer}
@@ -18,8 +19,7 @@ use Rattle.pool_workers.specs.declared.answer.TurnAnswer.{TurnAnswer}
 use Rattle.pool_workers.specs.declared.answer.TurnAnswer.TheVariants as turned
 use Rattle.pool_workers.specs.declared.task.Task.{Task}
 use Rattle.pool_workers.specs.declared.task.Task.TheVariants.{Begun}
-use Rattle.pm_machine.specs.Machine.{start}
-use Rattle.pool_workers.specs.Task.{task_phase, ticks_of}
+use Rattle.pool_workers.specs.Task.{first_machine, task_phase, ticks_of}
 use Rattle.pool_workers.specs.Crew.{Tasks, task_at, OtherTasksStay, compartment, StaysAside}
 use Rattle.pool_workers.specs.Crew.{standing_at, TurnOf}
 use Rattle.cnvm_session.specs.declared.answer.Answer.TheVariants as answer
@@ -66,7 +66,7 @@ RunsOut x lines y =
 pub record HasBegun (image : Image) (worker tx : ℕ) (args : List ℤ) (x : Scene)
     (lines : List WorkersLine) (y : Scene) : Type 0 where
   pub told : lines ≡ Started worker ∷ []
-  pub begun : task_at y.workers.tasks worker ≡ Some (Begun tx args (start image tx args))
+  pub begun : task_at y.workers.tasks worker ≡ Some (Begun tx args (first_machine image tx args))
   pub others : OtherTasksStay worker x.workers.tasks y.workers.tasks
   pub count : length y.workers.tasks ≡ length x.workers.tasks
   pub up : y.workers.down ≡ false
@@ -223,6 +223,7 @@ abbrev pub ends_power : RecoverAnswer → Bool
 ends_power recovered.Clean = false
 ends_power (recovered.Redone value logged) = false
 ends_power (recovered.Trap kind) = false
+ends_power (recovered.Aborted kind) = false
 ends_power (recovered.Unusable kind) = false
 ends_power recovered.Numbers = false
 ends_power (recovered.Off phase) = true
@@ -233,6 +234,7 @@ abbrev pub keeps_down : RecoverAnswer → Bool
 keeps_down recovered.Clean = false
 keeps_down (recovered.Redone value logged) = false
 keeps_down (recovered.Trap kind) = false
+keeps_down (recovered.Aborted kind) = false
 keeps_down (recovered.Unusable kind) = false
 keeps_down recovered.Numbers = true
 keeps_down (recovered.Off phase) = true
@@ -243,7 +245,7 @@ keeps_down recovered.NoMemory = true
 -- fences.
 pub record RecoversOne (image : Image) (worker : ℕ) (a : RecoverAnswer) (x y : Scene) :
     Type 0 where
-  pub recovered : IsRecovered a image (compartment image worker x.device)
+  pub recovered : IsRecovered a EndPool image (compartment image worker x.device)
       (compartment image worker y.device) x.steps y.steps
   pub dropped : task_at y.workers.tasks worker ≡ None
   pub others : OtherTasksStay worker x.workers.tasks y.workers.tasks

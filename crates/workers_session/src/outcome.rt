@@ -58,6 +58,7 @@ pub(crate) fn ends_power(answer: RecoverAnswer) -> bool
         RecoverAnswer::Clean
         | RecoverAnswer::Redone { .. }
         | RecoverAnswer::Trap(_)
+        | RecoverAnswer::Aborted(_)
         | RecoverAnswer::Unusable(_)
         | RecoverAnswer::Numbers => false,
     }
@@ -71,6 +72,7 @@ pub(crate) fn keeps_down(answer: RecoverAnswer) -> bool
         RecoverAnswer::Clean
         | RecoverAnswer::Redone { .. }
         | RecoverAnswer::Trap(_)
+        | RecoverAnswer::Aborted(_)
         | RecoverAnswer::Unusable(_) => false,
         RecoverAnswer::Numbers
         | RecoverAnswer::Off(_)

@@ -16,9 +16,13 @@ use Rattle.pool_map.specs.Trap.{trap_number}
 use Rattle.pm_machine.specs.declared.effect.End.{End}
 use Rattle.pm_machine.specs.declared.effect.End.TheVariants.{Halted, Trapped}
 use Rattle.pm_machine.specs.declared.image.Image.{Image}
-use Rattle.pm_machine.specs.Effects.{heap_end, events_of, records_past}
-use Rattle.pm_machine.specs.Machine.{State, StepOutcome, Goes, Ends, step, start}
-use Rattle.pm_machine.specs.Runs.{heap_in, due, owing}
+use Rattle.pm_machine.specs.declared.machine.Machine.{Machine}
+use Rattle.pm_machine.specs.declared.records.Policy.TheVariants.{EndPool}
+use Rattle.pm_machine.specs.Effects.{heap_end}
+use Rattle.pm_machine.specs.Logging as log
+use Rattle.pm_machine.specs.Logging.{Logging, Turn, Plays, Stops, turn_of, blank}
+use Rattle.pm_machine.specs.Machine.{State, start}
+use Rattle.pm_machine.specs.Runs.{heap_in, due, owing, played}
 use Rattle.crash_law.specs.Law.{IsAtRest, IsCut, AreMarked}
 use Rattle.run_law.specs.Seen.{result_of, E, W}
 use Rattle.tx_run.specs.declared.standing.Standing.TheVariants as stands
@@ -31,7 +35,7 @@ use Rattle.cut_law.specs.Law.{call_of, pool_with, BeginsOn, RunsSound}
 use Rattle.pool_workers.specs.declared.answer.TurnAnswer.{TurnAnswer}
 use Rattle.pool_workers.specs.declared.task.Task.{Task}
 use Rattle.pool_workers.specs.declared.task.Task.TheVariants.{Begun, Running, Ending, Cut}
-use Rattle.pool_workers.specs.Task.{going, stepped_task, task_past}
+use Rattle.pool_workers.specs.Task.{machine_at, going, stepped_task, task_past}
 use Rattle.pool_workers.specs.Task.{end_answer, piece_of, IsTask, IsUncut, IsUncutOr, WentWhole}
 use Rattle.workers_law.specs.AsCall.{begun_task}
 use Rattle.workers_law.specs.Fate.{fate_of, task_logs, task_steps}
@@ -56,12 +60,13 @@ use Rattle.session_law.specs.Agrees.{Agrees, RunsAs}
 use Rattle.session_law.specs.State.{Pending, Ready, Unusable, SourceState, standing_as}
 use Rattle.session_law.specs.State.{done_with}
 use Rattle.session_law.specs.Answers.{IsDoneWith, TrapsAs}
-use Rattle.session_law.specs.Holds.{IsResting, OwesOne, Holds}
+use Rattle.session_law.specs.Holds.{IsResting, OwesBy, Holds}
 use Rattle.session_law.proofs.Words.{held_words}
 use Rattle.session_law.proofs.Ones.{rest_one}
 use Rattle.session_law.proofs.Retired.{count_at}
 use Rattle.session_law.proofs.Reading.{numbers_small, stands_numbers}
 use Rattle.session_law.proofs.Calls.{call_runs}
+use Rattle.session_law.proofs.Exact.{Recorded, run_recorded}
 use Rattle.workers_source_law.proofs.Stills.{still, AreFewer}
 use Rattle.workers_source_law.proofs.Stills.{rest_stands, rest_same}
 
@@ -87,22 +92,20 @@ pub record IsAtWork (program : Program) (super : Words) (call : Pending) (t : Ta
 
 -- a run takes at most the steps that it may
 
-owing_few : (image : Image) (a k n : ℕ) (c : Cache) (o : StepOutcome) →
-    ((m : ℕ) (t : State) (d : Cache) → (due image a k m t d).steps ≤ k) →
-    (owing n (events_of image.parts.sizes a n (heap_in image.parts.sizes c))
-    (λ e t. due image a k (records_past n e) t
-    (play c (events_of image.parts.sizes a n (heap_in image.parts.sizes c) e))) o).steps ≤ suc k
-owing_few image a k n c (Ends end) rest = omega arith
-owing_few image a k n c (Goes e t) rest =
-    let later = rest (records_past n e) t
-    (play c (events_of image.parts.sizes a n (heap_in image.parts.sizes c) e)) in
-    omega arith
+owing_few : (image : Image) (a k : ℕ) (g : Logging) (c : Cache) (x : Turn) →
+    ((h : Logging) (t : State) (d : Cache) → (due image a k h t d).steps ≤ k) →
+    (owing image.parts.sizes a g (heap_in image.parts.sizes c)
+    (λ es h t. due image a k h t (played image.parts.sizes a g c es)) x).steps ≤ suc k
+owing_few image a k g c (Stops end) rest = omega arith
+owing_few image a k g c (Plays es h t) rest =
+    let later = rest h t (played image.parts.sizes a g c es) in omega arith
 
-steps_few : (image : Image) (a k n : ℕ) (s : State) (c : Cache) → (due image a k n s c).steps ≤ k
-steps_few image a zero n s c = omega arith
-steps_few image a (suc k) n s c =
-    owing_few image a k n c (step image n s (heap_in image.parts.sizes c))
-    (λ m t d. steps_few image a k m t d)
+steps_few : (image : Image) (a k : ℕ) (g : Logging) (s : State) (c : Cache) →
+    (due image a k g s c).steps ≤ k
+steps_few image a zero g s c = omega arith
+steps_few image a (suc k) g s c =
+    owing_few image a k g c (turn_of image g s (heap_in image.parts.sizes c))
+    (λ h t d. steps_few image a k h t d)
 
 call_steps : (image : Image) (tx : ℕ) (args : List ℤ) (c : Cache)
     → task_steps image (begun_task image tx args) c ≤ image.parts.most
@@ -121,28 +124,29 @@ numbers_of image ready mark = go (is_number (image DONE) && is_number (image ATT
 
 -- after a turn that wasn't refused the task is uncut
 
-going_uncut : (s : State) (a n k : ℕ) → IsUncut (going s a n k)
-going_uncut s a n k = go (k == 0)
+going_uncut : (m : Machine) (a k : ℕ) → IsUncut (going m a k)
+going_uncut m a k = go (k == 0)
   where
-    go : (b : Bool) → IsUncut (if b then Ending (Trapped trap.Steps) s.logged else Running s a n k)
+    go : (b : Bool) → IsUncut (if b then Ending (Trapped trap.Steps) (length m.records.words)
+        else Running m a k)
     go true = tt
     go false = tt
 
-stepped_uncut : (a n k l : ℕ) (o : StepOutcome) → IsUncut (stepped_task a n k l o)
-stepped_uncut a n k l (Goes e t) = going_uncut t a (records_past n e) (k - 1)
-stepped_uncut a n k l (Ends end) = tt
+stepped_uncut : (a k : ℕ) (g : Logging) (x : Turn) → IsUncut (stepped_task a k g x)
+stepped_uncut a k g (Plays es h t) = going_uncut (machine_at t h) a (k - 1)
+stepped_uncut a k g (Stops end) = tt
 
 past_uncut : (image : Image) (t : Task) (c : Cache) → IsUncut t → IsUncutOr (task_past image t c)
-past_uncut image (Begun tx args s) c uncut =
-    going_uncut s _ _ image.parts.most
-past_uncut image (Running s a n k) c uncut =
-    stepped_uncut a n k s.logged (step image n s (heap_in image.parts.sizes c))
+past_uncut image (Begun tx args m) c uncut = going_uncut _ _ image.parts.most
+past_uncut image (Running m a k) c uncut =
+    stepped_uncut a k m.records
+    (turn_of image m.records m.processor (heap_in image.parts.sizes c))
 past_uncut image (Ending end l) c uncut = tt
 past_uncut image (Cut p) c uncut = absurd uncut
 
 module _ (program : Program) (super : Words) (call : Pending) (s : SourceState) where
   abbrev due_of : Cache → List CacheEvent
-  due_of c = due_call program.image call.tx call.args c
+  due_of c = due_call EndPool program.image call.tx call.args c
 
   -- another worker's fence
   pub work_fenced : (t : Task) (k : Bool) (c : Cache) → IsAtWork program super call t c s
@@ -246,27 +250,31 @@ module _ (program : Program) (super : Words) (call : Pending) (s : SourceState) 
           (let fits = good.attempt_fits in omega arith)) ∙ w.resting.empty;
     }
 
-    sound : RunsSound program.image call.tx call.args h runs.end runs.effects
-    sound = record { few = few.1; ran = runs.ran; sound = runs.sound }
+    -- the run with its records
+    own : Recorded false program h call.tx call.args (log.takes (blank EndPool) runs.effects)
+    own = run_recorded false program h call.tx call.args runs
+
+    sound : RunsSound EndPool program.image call.tx call.args h own.end own.effects
+    sound = record { few = few.1; ran = own.ran; sound = own.sound }
 
     -- whatever a cut leaves of the compartment, it is as of a cut call
     pub work_owes : (c : Cache) → ShowsSome (due_of start_of) start_of c
-        → OwesOne program super call (still c) s
+        → OwesBy false program super call (still c) s
     work_owes c shows =
         let cut = (cut_turns program.image super call.tx call.args start_of (view start_of) s.done
-        runs.end runs.effects begins sound w.marked).0 c shows in
+        own.end own.effects begins sound w.marked).0 c shows in
         record {
           heap = h;
           holds = w.resting.holds;
           takes = w.takes;
           words = w.words;
-          end = runs.end;
-          effects = runs.effects;
-          ran = runs.ran;
+          end = own.end;
+          effects = own.effects;
+          ran = own.ran;
           left = subst (λ (last : ℤ).
               Images (IsCut (pool_with program.image super) (call_of s.done call.tx call.args)
-              (E runs.effects) (W runs.effects) h (heap_end h runs.effects) last
-              (result_of runs.end)) c) w.resting.before.last_is cut;
+              (E EndPool own.effects) (W own.effects) h (heap_end h own.effects) last
+              (result_of EndPool last own.end)) c) w.resting.before.last_is cut;
         }
 
     -- the end of the call on a device that refuses nothing
@@ -276,10 +284,10 @@ module _ (program : Program) (super : Words) (call : Pending) (s : SourceState) 
     abbrev fate0 : End
     fate0 = fate_of program.image (begun_task program.image call.tx call.args) start_of
 
-    as_called : (r : CallAnswer) → Called r program.image call.tx call.args (still start_of)
+    as_called : (r : CallAnswer) → Called r EndPool program.image call.tx call.args (still start_of)
         (still over) 0 (0 + task_steps program.image (begun_task program.image call.tx call.args)
         start_of)
-        → IsTxCalled r program.image call.tx call.args (still start_of) (still over) 0
+        → IsTxCalled r EndPool program.image call.tx call.args (still start_of) (still over) 0
         (0 + task_steps program.image (begun_task program.image call.tx call.args) start_of)
     as_called r is = record {
       ready = λ on stands. is;
@@ -309,7 +317,7 @@ module _ (program : Program) (super : Words) (call : Pending) (s : SourceState) 
           let ran = (ascalls.called program.image call.tx call.args 0 start_of 0).0 v halted in
           let own_logs = task_logs program.image (begun_task program.image call.tx call.args)
           start_of in
-          let done = call_runs program super agrees (still start_of) (standing_as Ready s)
+          let done = call_runs false program super agrees (still start_of) (standing_as Ready s)
           (rest_stands program super (still start_of) s Ready w.resting) call.tx call.args w.takes
           w.words w.plain (called.Done v own_logs) (still over) 0
           (0 + task_steps program.image (begun_task program.image call.tx call.args) start_of) refl
@@ -332,7 +340,7 @@ module _ (program : Program) (super : Words) (call : Pending) (s : SourceState) 
           × Images (Lost program.image.parts.sizes (trap_number kind)) c
       work_traps kind trapped =
           let ran = (ascalls.called program.image call.tx call.args 0 start_of 0).1 kind trapped in
-          let done = call_runs program super agrees (still start_of) (standing_as Ready s)
+          let done = call_runs false program super agrees (still start_of) (standing_as Ready s)
           (rest_stands program super (still start_of) s Ready w.resting) call.tx call.args w.takes
           w.words w.plain (called.Trap kind) (still over) 0
           (0 + task_steps program.image (begun_task program.image call.tx call.args) start_of) refl
@@ -348,7 +356,7 @@ module _ (program : Program) (super : Words) (call : Pending) (s : SourceState) 
 pub record HasEnded (program : Program) (super : Words) (call : Pending) (t : Task)
     (s : SourceState) (c : Cache) (w : IsAtWork program super call t c s) (b : Cache)
     (a : TurnAnswer) : Type 0 where
-  pub all : ShowsPlayed (due_call program.image call.tx call.args w.start) [] w.start b
+  pub all : ShowsPlayed (due_call EndPool program.image call.tx call.args w.start) [] w.start b
   pub told : a ≡ end_answer
       (fate_of program.image (begun_task program.image call.tx call.args) w.start)
       (task_logs program.image (begun_task program.image call.tx call.args) w.start)

@@ -209,6 +209,7 @@ recovery_told : (a : RecoverAnswer) → is_fault (answer_of_recovery a) ≡ true
 recovery_told recovered.Clean told = absurd (both_ways false refl told)
 recovery_told (recovered.Redone value logged) told = absurd (both_ways false refl told)
 recovery_told (recovered.Trap kind) told = absurd (both_ways false refl told)
+recovery_told (recovered.Aborted kind) told = absurd (both_ways false refl told)
 recovery_told (recovered.Unusable kind) told = absurd (both_ways false refl told)
 recovery_told recovered.Numbers told = absurd (both_ways false refl told)
 recovery_told (recovered.Off phase) told = absurd (both_ways false refl told)

@@ -21,7 +21,7 @@ use Rattle.cnvm_session.specs.declared.program.Program.{Program}
 use Rattle.cnvm_session.specs.Marks.{rolls_back_of}
 use Rattle.workers_session.specs.WorkersCommands.{Scene}
 use Rattle.session_law.specs.State.{Pending, Standing, Ready, Down, Unusable, SourceState}
-use Rattle.session_law.specs.Holds.{IsResting, OwesOne, OwesBy}
+use Rattle.session_law.specs.Holds.{IsResting, OwesBy}
 use Rattle.session_law.proofs.Resting.{resting_owes}
 use Rattle.session_law.proofs.Powers.{HeldAs}
 use Rattle.workers_source_law.specs.States.{States, RestStays}
@@ -126,7 +126,7 @@ module _ (program : Program) (super : Words) where
 
   -- an idle worker whose compartment has no mark is at rest
   pub stands_work : (call : Pending) (down : Bool) (o : Option Task) (c : Cache) (s : SourceState)
-      → s.standing ≡ Down (Some call) → AreMarked c → OwesOne program super call (still c) s
+      → s.standing ≡ Down (Some call) → AreMarked c → OwesBy false program super call (still c) s
       → rolls_back_of program call.tx ≡ false
       → (down ≡ false → (t : Task) × (o ≡ Some t) × IsAtWork program super call t c s)
       → Stands program super down o c s

@@ -23,6 +23,7 @@ use Rattle.pm_machine.specs.declared.effect.End.{End}
 use Rattle.pm_machine.specs.declared.effect.End.TheVariants.{Halted, Trapped}
 use Rattle.pm_machine.specs.Effects.{heap_end}
 use Rattle.pm_machine.specs.declared.image.Image.{Image}
+use Rattle.pm_machine.specs.declared.records.Policy.TheVariants.{EndPool}
 use Rattle.crash_law.specs.Pools.{IsBefore}
 use Rattle.crash_law.specs.Law.{IsAtRest, IsCut, IsEnd, AreMarked}
 use Rattle.run_law.specs.Seen.{result_of, E, W}
@@ -48,7 +49,7 @@ use Rattle.session_law.specs.State.{Pending, Standing, Ready, Down, Unusable, So
 use Rattle.session_law.specs.State.{standing_as, done_with}
 use Rattle.session_law.specs.Answers.{FindsOwed, Rests, RedoesBy, Recovers, IsMarked, MarksAs}
 use Rattle.session_law.specs.Answers.{Powers}
-use Rattle.session_law.specs.Holds.{IsResting, OwesNone, OwesOne, OwesBy, HoldsAs}
+use Rattle.session_law.specs.Holds.{IsResting, OwesNone, OwesBy, HoldsAs}
 use Rattle.session_law.proofs.Words.{held_words}
 use Rattle.session_law.proofs.Ones.{rest_images, at_view, left_rest}
 use Rattle.session_law.proofs.Reading.{is_marked, is_unsealed, is_owed, kind_read}
@@ -110,31 +111,34 @@ module _ (d b : Device) (marked : AreMarked d.cache) (on : d.on ≡ true) where
   cleaned_kept recovered.NoMemory es is = kept_part recovered.NoMemory refusal.NoMemory es refl is
   cleaned_kept (recovered.Redone v l) es is = absurd is
   cleaned_kept (recovered.Trap t) es is = absurd is
+  cleaned_kept (recovered.Aborted t) es is = absurd is
   cleaned_kept (recovered.Unusable t) es is = absurd is
   cleaned_kept recovered.Numbers es is = absurd is
 
   redid_kept : (r : RecoverAnswer) (image : Image) (tx : ℕ) (args : List ℤ) (n k k1 : ℕ)
-      → Redid r image tx args n d b k k1 → IsKept r b
+      → Redid r EndPool image tx args n d b k k1 → IsKept r b
   redid_kept (recovered.Redone v l) image tx args n k k1 is =
-      kept_all (recovered.Redone v l) (due_redo image tx args n d.cache) is.0.played
+      kept_all (recovered.Redone v l) (due_redo EndPool image tx args n d.cache) is.0.played
   redid_kept (recovered.Trap t) image tx args n k k1 is =
-      kept_all (recovered.Trap t) (due_redo image tx args n d.cache) is.played
+      kept_all (recovered.Trap t) (due_redo EndPool image tx args n d.cache) is.1.played
+  redid_kept (recovered.Aborted t) image tx args n k k1 is =
+      kept_all (recovered.Aborted t) (due_redo EndPool image tx args n d.cache) is.1.played
   redid_kept (recovered.Off phase.Sealed) image tx args n k k1 is =
-      kept_part (recovered.Off phase.Sealed) refusal.Off (due_redo image tx args n d.cache) refl is
+      kept_part (recovered.Off phase.Sealed) refusal.Off (due_redo EndPool image tx args n d.cache) refl is
   redid_kept (recovered.Off phase.Unsealed) image tx args n k k1 is = absurd is
   redid_kept (recovered.Off phase.Sealing) image tx args n k k1 is = absurd is
   redid_kept recovered.Failed image tx args n k k1 is =
-      kept_part recovered.Failed refusal.Failed (due_redo image tx args n d.cache) refl is
+      kept_part recovered.Failed refusal.Failed (due_redo EndPool image tx args n d.cache) refl is
   redid_kept recovered.NoMemory image tx args n k k1 (inl same) =
       kept_same recovered.NoMemory same.0
   redid_kept recovered.NoMemory image tx args n k k1 (inr part) =
-      kept_part recovered.NoMemory refusal.NoMemory (due_redo image tx args n d.cache) refl part
+      kept_part recovered.NoMemory refusal.NoMemory (due_redo EndPool image tx args n d.cache) refl part
   redid_kept recovered.Clean image tx args n k k1 is = absurd is
   redid_kept (recovered.Unusable t) image tx args n k k1 is = absurd is
   redid_kept recovered.Numbers image tx args n k k1 is = absurd is
 
   pub recovered_kept : (r : RecoverAnswer) (image : Image) (k k1 : ℕ)
-      → IsRecovered r image d b k k1 → IsKept r b
+      → IsRecovered r EndPool image d b k k1 → IsKept r b
   recovered_kept r image k k1 is =
       by_found (IsKept r b) image d
       (λ on mark. kept_same r (is.unusable on mark).1)
@@ -151,6 +155,7 @@ keeps_if_down : (r : RecoverAnswer) → mode_of_recovery r ≡ mode.Down → kee
 keeps_if_down recovered.Clean is = absurd cc
 keeps_if_down (recovered.Redone v l) is = absurd cc
 keeps_if_down (recovered.Trap t) is = absurd cc
+keeps_if_down (recovered.Aborted t) is = absurd cc
 keeps_if_down (recovered.Unusable t) is = absurd cc
 keeps_if_down recovered.Numbers is = refl
 keeps_if_down (recovered.Off p) is = refl
@@ -161,6 +166,7 @@ pub ends_keeps : (r : RecoverAnswer) → ends_power r ≡ true → keeps_down r 
 ends_keeps recovered.Clean is = absurd cc
 ends_keeps (recovered.Redone v l) is = absurd cc
 ends_keeps (recovered.Trap t) is = absurd cc
+ends_keeps (recovered.Aborted t) is = absurd cc
 ends_keeps (recovered.Unusable t) is = absurd cc
 ends_keeps recovered.Numbers is = absurd cc
 ends_keeps (recovered.Off p) is = refl
@@ -193,6 +199,7 @@ module _ (program : Program) (super : Words) where
   rests_plain recovered.Clean found t image plain is = plain_of t (standing_as Ready found) is tt
   rests_plain (recovered.Redone v l) found t image plain is = absurd is
   rests_plain (recovered.Trap kind) found t image plain is = absurd is
+  rests_plain (recovered.Aborted kind) found t image plain is = absurd is
   rests_plain (recovered.Unusable kind) found t image plain is = absurd is
   rests_plain recovered.Numbers found t image plain is = plain_of t found is.1 plain
   rests_plain (recovered.Off p) found t image plain is = plain_of t found is.1 plain
@@ -208,6 +215,8 @@ module _ (program : Program) (super : Words) where
       plain_of t (done_with is.0 v Ready found) is.2 tt
   redoes_plain (recovered.Trap kind) owed found t image plain is =
       plain_of t (standing_as (Unusable kind) found) is.2 tt
+  redoes_plain (recovered.Aborted kind) owed found t image plain is =
+      let no = is.0 in absurd cc
   redoes_plain (recovered.Unusable kind) owed found t image plain is = absurd is
   redoes_plain recovered.Numbers owed found t image plain is = plain_of t found is.1 plain
   redoes_plain (recovered.Off p) owed found t image plain is = plain_of t found is.1 plain
@@ -244,6 +253,8 @@ module _ (program : Program) (super : Words) where
       found_plain (recovered.Redone v l) s t image plain is.1
   powers_plain (recovered.Trap kind) s t image plain is =
       found_plain (recovered.Trap kind) s t image plain is.1
+  powers_plain (recovered.Aborted kind) s t image plain is =
+      found_plain (recovered.Aborted kind) s t image plain is.1
   powers_plain (recovered.Unusable kind) s t image plain is =
       plain_of t (standing_as (Unusable kind) s) is.2 tt
   powers_plain recovered.Numbers s t image plain is =
@@ -322,7 +333,7 @@ module _ (program : Program) (super : Words) where
 
   module _ (agrees : Agrees program) (e b : Device) (s : SourceState) (left : IsLeft e.cache s)
       (on : e.on ≡ true) (r : RecoverAnswer) (k k1 : ℕ)
-      (is : IsRecovered r program.image e b k k1) where
+      (is : IsRecovered r EndPool program.image e b k k1) where
     abbrev one : Words
     one = view e.cache
 
@@ -383,16 +394,16 @@ module _ (program : Program) (super : Words) where
         (is_unsealed one s.done before.good.done before.good.unsealed))
 
     at_end : (owed : Pending) → s.standing ≡ Down (Some owed)
-        → rolls_back_of program owed.tx ≡ false → (owes : OwesOne program super owed e s)
+        → rolls_back_of program owed.tx ≡ false → (owes : OwesBy false program super owed e s)
         → (x : End) → owes.end ≡ x
         → IsEnd (pool_with program.image super) (call_of s.done owed.tx owed.args) owes.heap
-        (heap_end owes.heap owes.effects) (result_of x) one → Given
+        (heap_end owes.heap owes.effects) (result_of EndPool s.last x) one → Given
     at_end owed standing plain owes (Halted v) ends seen =
         unmarked (not_owing program e
         (is_unsealed one (suc s.done) seen.good.done seen.good.unsealed))
     at_end owed standing plain owes (Trapped kind) ends lost =
         let mine : Meant false program s.pool owed owes.heap owes.end owes.effects =
-        meant program s owed owes.heap owes.end owes.effects owes.holds
+        meant false program s owed owes.heap owes.end owes.effects owes.holds
         (agrees.runs owes.heap owed.tx owed.args owes.holds.headers
         (held_words program owes.heap s owes.holds) owes.words owes.takes) owes.ran in
         marked_as kind
@@ -405,10 +416,10 @@ module _ (program : Program) (super : Words) where
         lost
 
     at_cut : (owed : Pending) → s.standing ≡ Down (Some owed)
-        → rolls_back_of program owed.tx ≡ false → (owes : OwesOne program super owed e s)
+        → rolls_back_of program owed.tx ≡ false → (owes : OwesBy false program super owed e s)
         → IsCut (pool_with program.image super) (call_of s.done owed.tx owed.args)
-        (E owes.effects) (W owes.effects) owes.heap (heap_end owes.heap owes.effects) s.last
-        (result_of owes.end) one → Given
+        (E EndPool owes.effects) (W owes.effects) owes.heap (heap_end owes.heap owes.effects) s.last
+        (result_of EndPool s.last owes.end) one → Given
     at_cut owed standing plain owes (inl before) =
         unmarked (not_owing program e
         (is_unsealed one s.done before.good.done before.good.unsealed))
@@ -424,12 +435,12 @@ module _ (program : Program) (super : Words) where
     by_standing Ready standing plain owes = none_owed owes
     by_standing (Down None) standing plain owes = none_owed owes
     by_standing (Down (Some owed)) standing plain owes =
-        let mine : OwesOne program super owed e s =
+        let mine : OwesBy false program super owed e s =
         subst (λ (x : Bool). OwesBy x program super owed e s) plain owes in
         at_cut owed standing plain mine
         (at_view (IsCut (pool_with program.image super) (call_of s.done owed.tx owed.args)
-        (E mine.effects) (W mine.effects) mine.heap (heap_end mine.heap mine.effects) s.last
-        (result_of mine.end)) e.cache mine.left)
+        (E EndPool mine.effects) (W mine.effects) mine.heap (heap_end mine.heap mine.effects) s.last
+        (result_of EndPool s.last mine.end)) e.cache mine.left)
     by_standing (Unusable kind) standing plain lost =
         marked_as kind
         (subst (λ (x : Standing). IsMarked x program s kind) (sym standing) refl)

@@ -101,17 +101,7 @@ module _ (program : Program) (super : Words) where
   fewer_owed : (owed : Pending) (d e : Device) (s : SourceState) → AreFewer d.cache e.cache
       → (marked : Bool) → OwesBy marked program super owed d s
       → OwesBy marked program super owed e s
-  fewer_owed owed d e s fewer false r = record {
-    heap = r.heap;
-    holds = r.holds;
-    takes = r.takes;
-    words = r.words;
-    end = r.end;
-    effects = r.effects;
-    ran = r.ran;
-    left = λ image is. r.left image (fewer image is);
-  }
-  fewer_owed owed d e s fewer true r = record {
+  fewer_owed owed d e s fewer marked r = record {
     heap = r.heap;
     holds = r.holds;
     takes = r.takes;

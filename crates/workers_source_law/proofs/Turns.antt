@@ -11,6 +11,7 @@ use Rattle.pmem.specs.declared.answer.Refusal.TheVariants as refusal
 use Rattle.pm_machine.specs.declared.effect.End.{End}
 use Rattle.pm_machine.specs.declared.effect.End.TheVariants.{Halted, Trapped}
 use Rattle.pm_machine.specs.declared.image.Image.{Image}
+use Rattle.pm_machine.specs.declared.records.Policy.TheVariants.{EndPool}
 use Rattle.crash_law.specs.Law.{AreMarked}
 use Rattle.pool_workers.specs.declared.answer.TurnAnswer.{TurnAnswer}
 use Rattle.pool_workers.specs.declared.answer.TurnAnswer.TheVariants as turned
@@ -89,8 +90,8 @@ stopped_mean program s w (Some t ∷ os) owes =
 -- a turn after which a task is left ended nothing
 some_went : (image : Image) (t u : Task) (c : Cache) → IsUncut t → task_past image t c ≡ Some u
     → answer_past t ≡ turned.Went
-some_went image (Begun tx args s) u c uncut is = refl
-some_went image (Running s a n k) u c uncut is = refl
+some_went image (Begun tx args m) u c uncut is = refl
+some_went image (Running m a k) u c uncut is = refl
 some_went image (Ending end l) u c uncut is = absurd cc
 some_went image (Cut p) u c uncut is = absurd uncut
 
@@ -136,13 +137,13 @@ module _ (program : Program) (super : Words) (agrees : Agrees program) where
     rest_of t stay mine = others_stand program super worker x y s t count turn.others turn.aside
         stay up all (λ less. mine)
 
-    shown_marks : ShowsSome (due_call program.image at.call.tx at.call.args at.work.start)
+    shown_marks : ShowsSome (due_call EndPool program.image at.call.tx at.call.args at.work.start)
         at.work.start b → AreMarked b
     shown_marks shows = subst AreMarked (sym shows.shows.now_is)
         (marks_play shows.shows.shown at.work.start at.work.marked)
 
     owing : (down : Bool) (o : Option Task)
-        → ShowsSome (due_call program.image at.call.tx at.call.args at.work.start) at.work.start b
+        → ShowsSome (due_call EndPool program.image at.call.tx at.call.args at.work.start) at.work.start b
         → (down ≡ false → (t : Task) × (o ≡ Some t)
         × IsAtWork program super at.call t b (s worker))
         → Stands program super down o b (s worker)
@@ -179,7 +180,7 @@ module _ (program : Program) (super : Words) (agrees : Agrees program) where
         (λ down. (u, is, work)))
       where
         transported : IsAtWork program super at.call u b (s worker)
-            → ShowsPlayed (due_call program.image at.call.tx at.call.args at.work.start)
+            → ShowsPlayed (due_call EndPool program.image at.call.tx at.call.args at.work.start)
             (left_or program.image (Some u) b) at.work.start b
         transported work =
             (turns program.image at.call.tx at.call.args at.work.start).1 a turn.task (Some u)
@@ -193,7 +194,7 @@ module _ (program : Program) (super : Words) (agrees : Agrees program) where
         → l ≡ task_logs program.image (begun_task program.image at.call.tx at.call.args)
         at.work.start
         → a ≡ end_answer end l → task_at y.workers.tasks worker ≡ None
-        → ShowsPlayed (due_call program.image at.call.tx at.call.args at.work.start) []
+        → ShowsPlayed (due_call EndPool program.image at.call.tx at.call.args at.work.start) []
         at.work.start b
         → Gives x s (turn_lines a worker y.workers.tasks) y
     ends (Halted v) l fate logs told none shown =
@@ -327,8 +328,8 @@ module _ (program : Program) (super : Words) (agrees : Agrees program) where
         (compartment program.image worker x.device) (compartment program.image worker y.device)
         → PhaseOr worker o
     own_phase None off = absurd off.1
-    own_phase (Some (Begun tx args st)) off = absurd off.1
-    own_phase (Some (Running st n k l)) off = absurd off.1
+    own_phase (Some (Begun tx args m)) off = absurd off.1
+    own_phase (Some (Running m n k)) off = absurd off.1
     own_phase (Some (Ending end l)) off = absurd off.1
     own_phase (Some (Cut p)) off =
         phase_as worker (Cut p)

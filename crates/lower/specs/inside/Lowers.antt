@@ -17,11 +17,11 @@ abbrev pub loop_code : (on p : ℕ) → (condition body third : List Instruction
 loop_code on p condition body third out =
     Tick ∷ (condition ++ (Branch on out ∷ (body ++ (third ++ Jump p ∷ []))))
 
--- the left side of `?` behind a branch over it, from p on; the condition is in the register `on`
+-- the left side of `?` after a branch over it, from p on; the condition is in the register `on`
 abbrev pub left_code : Context → Variables → (on : ℕ) → ExprTree → ℕ → List Instruction
 left_code s v on a p = Branch on (suc (suc (exp_end a (suc p)))) ∷ exp_code s v a (suc p)
 
--- the right side, from p on, and a copy behind each side; the left one is in the register `left`
+-- the right side, from p on, and a copy after each side; the left one is in the register `left`
 abbrev pub other_end : ExprTree → ℕ → ℕ
 other_end b p = suc (exp_end b (suc (suc p)))
 

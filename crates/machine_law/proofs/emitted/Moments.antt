@@ -3,7 +3,7 @@ use Rattle.std.proofs.Common.{◌≡◌, ℕ, zero, suc, ◌+◌, List, [], ◌�
 use Rattle.pm_machine.specs.declared.effect.Effect.{Effect}
 use Rattle.pm_machine.specs.declared.effect.End.{End}
 use Rattle.pm_machine.specs.declared.image.Image.{Image}
-use Rattle.pm_machine.specs.Effects.{heap_past, records_past}
+use Rattle.pm_machine.specs.Effects.{heap_past}
 use Rattle.pm_machine.specs.Machine.{StepOutcome, Goes, Ends, Finished, began, follow, step, run}
 use Rattle.machine_law.specs.emitted.Moments.{RunMoment, RunStage, On, Over, moment_after, staged}
 use Rattle.machine_law.specs.emitted.Moments.{one, stage_then, go, onto, RunsLaw}
@@ -37,14 +37,14 @@ go_over image i j m b end e =
 module _ (image : Image) (end : End) (b : RunMoment) where
   abbrev Ran : (k : ℕ) → RunMoment → Type 0
   Ran k m = (es : List Effect) × (b.seen ≡ onto es m.seen)
-      × (run image k m.records m.state m.heap ≡ Finished end es)
+      × (run image k m.state m.heap ≡ Finished end es)
 
   ran_on : (k : ℕ) (m : RunMoment) (o : StepOutcome)
       → ((t : RunMoment) → go image k t ≡ Over end b → Ran k t)
       → stage_then (staged m o) (go image k)
       ≡ Over end b →
       (es : List Effect) × (b.seen ≡ onto es m.seen)
-      × (follow (λ e t. run image k (records_past m.records e) t (heap_past m.heap e)) o
+      × (follow (λ e t. run image k t (heap_past m.heap e)) o
       ≡ Finished end es)
   ran_on k m (Goes e t) next h =
       let r = next (moment_after m e t) h in
@@ -56,7 +56,7 @@ module _ (image : Image) (end : End) (b : RunMoment) where
 
   ran_within : (k : ℕ) (m : RunMoment) → go image k m ≡ Over end b → Ran k m
   ran_within zero m h = absurd (cc)
-  ran_within (suc k) m h = ran_on k m (step image m.records m.state m.heap) (λ t. ran_within k t) h
+  ran_within (suc k) m h = ran_on k m (step image m.state m.heap) (λ t. ran_within k t) h
 
 pub ran : RunsLaw
 ran image k m b end h = ran_within image end b k m h

@@ -16,9 +16,9 @@ use Rattle.pm_machine.specs.declared.image.Image.{Image}
 use Rattle.pm_machine.specs.declared.op.Op.{Op}
 use Rattle.pm_machine.specs.declared.op.Op.TheVariants.{Load, Store, Log, Flush, Call, Ret, Tick}
 use Rattle.pm_machine.specs.declared.op.Function.{Function}
-use Rattle.pm_machine.specs.Effects.{heap_past, records_past}
+use Rattle.pm_machine.specs.Effects.{heap_past}
 use Rattle.pm_machine.specs.Machine.{State, StepOutcome, Goes, Ends, Run, Finished, follow, step}
-use Rattle.pm_machine.specs.Machine.{run, execute, tally, fetch, fetch_in, target, read_register}
+use Rattle.pm_machine.specs.Machine.{run, execute, fetch, fetch_in, target, read_register}
 use Rattle.pm_machine.specs.Machine.{load, store, log, flush, call, return, passed, tick_spent}
 use Rattle.pm_machine.specs.Machine.{entered}
 use Rattle.pm_machine.proofs.Fuel.{began_rest}
@@ -165,49 +165,45 @@ module _ (image : Image) where
       subst (λ (fs : List Effect). IsPaired last (seen_all fs)) (sym inv.2)
       (one_more last e t inv.0 fits (next (after e) e t inv.0 (still_waits last e t fits) inv.1))
 
-  module _ (paired : AllByRecursion HasPairs image.parts.functions) (heap : Words) (n : ℕ)
+  module _ (paired : AllByRecursion HasPairs image.parts.functions) (heap : Words)
       (s : State) where
-    fits_load : (r : ℕ) (p : Option ℕ) → Fits None (tally (load heap s r p))
+    fits_load : (r : ℕ) (p : Option ℕ) → Fits None (load heap s r p)
     fits_load r None = tt
     fits_load r (Some w) = tt
 
-    fits_store : (x : ℤ) (p : Option ℕ) → Fits None (tally (store s x p))
+    fits_store : (x : ℤ) (p : Option ℕ) → Fits None (store s x p)
     fits_store x None = tt
     fits_store x (Some w) = tt
 
     fits_log : (a : ℕ) (z : ℤ) (p : Option ℕ) → target image s a z ≡ p
         → StoreIn (fetch image (passed s)) a z
-        → Fits None (tally (log image.parts.sizes.records n s p))
+        → Fits None (log s p)
     fits_log a z None aims there = tt
-    fits_log a z (Some w) aims there = by_room (ltb n image.parts.sizes.records)
-      where
-        by_room : (b : Bool) → Fits None
-            (tally (if b then Goes (Logs w) (passed s) else Ends (Trapped trap.LogFull)))
-        by_room true = record { a = a; z = z; b = there.from; there = there.is; aims = aims }
-        by_room false = tt
+    fits_log a z (Some w) aims there =
+        record { a = a; z = z; b = there.from; there = there.is; aims = aims }
 
-    fits_flush : (p : Option ℕ) → Fits None (tally (flush s p))
+    fits_flush : (p : Option ℕ) → Fits None (flush s p)
     fits_flush None = tt
     fits_flush (Some l) = tt
 
-    fits_call : (r f : ℕ) (args : List ℕ) → Fits None (tally (call s r f args))
+    fits_call : (r f : ℕ) (args : List ℕ) → Fits None (call s r f args)
     fits_call r f args = by_depth (ltb (length s.below + 1) 256)
       where
         by_depth : (b : Bool) → Fits None
-            (tally (if b then Goes Quiet (entered s r f args) else Ends (Trapped trap.Depth)))
+            (if b then Goes Quiet (entered s r f args) else Ends (Trapped trap.Depth))
         by_depth true = tt
         by_depth false = tt
 
-    fits_return : (v : ℤ) (o : Option Frame) → Fits None (tally (return s v o))
+    fits_return : (v : ℤ) (o : Option Frame) → Fits None (return s v o)
     fits_return v None = tt
     fits_return v (Some caller) = tt
 
     fits_tick : (b : Bool) → Fits None
-        (tally (if b then Ends (Trapped trap.Steps) else Goes Quiet (tick_spent s)))
+        (if b then Ends (Trapped trap.Steps) else Goes Quiet (tick_spent s))
     fits_tick true = tt
     fits_tick false = tt
 
-    fits_act : (i : Option Op) → fetch image s ≡ i → Fits None (tally (execute image heap n s i))
+    fits_act : (i : Option Op) → fetch image s ≡ i → Fits None (execute image heap s i)
     fits_act None e = tt
     fits_act (Some (Load r a o)) e = fits_load r (target image s a o)
     fits_act (Some (Store a o b)) e = fits_store (read_register s b) (target image s a o)
@@ -222,24 +218,24 @@ module _ (image : Image) where
     fits_act (Some Tick) e = fits_tick (s.ticks == 0)
     fits_act (Some i) e = tt
 
-    fits_step : (last : Option ℕ) → Waits last s → Fits last (step image n s heap)
+    fits_step : (last : Option ℕ) → Waits last s → Fits last (step image s heap)
     fits_step None waits = fits_act (fetch image s) refl
     fits_step (Some u) waits =
-        subst (λ (i : Option Op). Fits (Some u) (tally (execute image heap n s i)))
+        subst (λ (i : Option Op). Fits (Some u) (execute image heap s i))
         (sym waits.there)
-        (subst (λ (p : Option ℕ). Fits (Some u) (tally (store s (read_register s waits.b) p)))
+        (subst (λ (p : Option ℕ). Fits (Some u) (store s (read_register s waits.b) p))
         (sym waits.aims) refl)
 
-  pub paired_run : (paired : AllByRecursion HasPairs image.parts.functions) (k n : ℕ)
+  pub paired_run : (paired : AllByRecursion HasPairs image.parts.functions) (k : ℕ)
       (last : Option ℕ) (s : State) (heap : Words) (end : End) (es : List Effect) → Waits last s
-      → run image k n s heap ≡ Finished end es → IsPaired last (seen_all es)
-  paired_run paired zero n last s heap end es waits h = absurd (cc)
-  paired_run paired (suc k) n last s heap end es waits h =
-      paired_on last (step image n s heap)
-      (λ e t. run image k (records_past n e) t (heap_past heap e)) end es
-      (fits_step paired heap n s last waits)
-      (λ q e t rest w r. paired_run paired k (records_past n e) q t (heap_past heap e) end rest w r)
+      → run image k s heap ≡ Finished end es → IsPaired last (seen_all es)
+  paired_run paired zero last s heap end es waits h = absurd (cc)
+  paired_run paired (suc k) last s heap end es waits h =
+      paired_on last (step image s heap)
+      (λ e t. run image k t (heap_past heap e)) end es
+      (fits_step paired heap s last waits)
+      (λ q e t rest w r. paired_run paired k q t (heap_past heap e) end rest w r)
       h
 
 pub paired_all : PairedLaw
-paired_all image k n s heap end es paired h = paired_run image paired k n None s heap end es tt h
+paired_all image k s heap end es paired h = paired_run image paired k None s heap end es tt h

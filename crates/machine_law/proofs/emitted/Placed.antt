@@ -3,7 +3,7 @@ use Rattle.std.proofs.Common.{◌≡◌, ◌≢◌, ◌⊎◌, inl, inr, ℕ, ze
 use Rattle.std.proofs.Common.{true, false, List, [], ◌∷◌, length, Some, None, Option, ℤ, pos}
 use Rattle.std.proofs.Common.{negsuc, refl, sym, ap, ◌∙◌, subst, arith, ltb, get_or, set}
 use Rattle.std.proofs.Common.{length-set, ne_eqb}
-use Rattle.std.specs.Prelude.{slice_get, nat_lt, if◌then◌else◌, ◌==◌}
+use Rattle.std.specs.Prelude.{slice_get, if◌then◌else◌, ◌==◌}
 use Rattle.std.specs.List.{AllByRecursion}
 use Rattle.std.specs.Ordering.{int_eq}
 use Rattle.std.proofs.Math.Nat.{min-eq_left}
@@ -20,7 +20,6 @@ use Rattle.pool_layout.specs.Sizes.{slot_word}
 use Rattle.pm_machine.specs.declared.image.Image.{Image}
 use Rattle.pm_machine.specs.Find.{least, looks}
 use Rattle.pm_machine.specs.declared.op.Op.{Op}
-use Rattle.pm_machine.specs.Machine.{tally}
 use Rattle.pm_machine.specs.Machine as machine
 use Rattle.pm_alloc.specs.declared.local.Reg.{Reg}
 use Rattle.pm_alloc.specs.declared.local.Reg.TheVariants.{Own, Temp}
@@ -99,82 +98,76 @@ module _ (base : ℕ) (own : Words) (temp regs : List ℤ) (room : base + 8 < 2 
 
 module _ (image : Image) (x : Setting) (n : ℕ) (room : x.base + 8 < 2 ^ 32)
     (short : x.place + n < 2 ^ 32) where
-  abbrev at_moment : (at : ℕ) → List ℤ → World → (dirty : List ℕ) → (logged : ℕ) → List Effect
+  abbrev at_moment : (at : ℕ) → List ℤ → World → (dirty : List ℕ) → List Effect
       → RunMoment
-  at_moment at regs w dirty logged seen = moment x at regs w dirty logged seen
+  at_moment at regs w dirty seen = moment x at regs w dirty seen
 
   wrote : (at : ℕ) (own : Words) (temp : List ℤ) (w : World) (r : Reg) (v y : ℤ) (regs : List ℤ)
-      (dirty : List ℕ) (logged : ℕ) (seen : List Effect) →
+      (dirty : List ℕ) (seen : List Effect) →
       FrameHolds x.base own temp regs → heard seen ≡ w.seen → IsReg x.base r → y ≡ v →
       Same x (local_write (at + 1) own temp w r v)
-      (at_moment (x.place + at + 1) (set regs (register_number x.base r) y) w dirty logged seen)
-  wrote at own temp w (Own r) v y regs dirty logged seen h hear is e = record {
+      (at_moment (x.place + at + 1) (set regs (register_number x.base r) y) w dirty seen)
+  wrote at own temp w (Own r) v y regs dirty seen h hear is e = record {
     regs = set regs r v;
     dirty = dirty;
-    logged = logged;
     seen = seen;
     holds = own_written x.base own temp regs room h r v is;
     heard_is = hear;
     is = let next : x.place + at + 1 ≡ x.place + (at + 1) = omega arith in
-        ap (λ (i : ℕ). at_moment i (set regs r y) w dirty logged seen) next
-        ∙ ap (λ (z : ℤ). at_moment (x.place + (at + 1)) (set regs r z) w dirty logged seen) e;
+        ap (λ (i : ℕ). at_moment i (set regs r y) w dirty seen) next
+        ∙ ap (λ (z : ℤ). at_moment (x.place + (at + 1)) (set regs r z) w dirty seen) e;
   }
-  wrote at own temp w (Temp j) v y regs dirty logged seen h hear is e = record {
+  wrote at own temp w (Temp j) v y regs dirty seen h hear is e = record {
     regs = set regs (x.base + j) v;
     dirty = dirty;
-    logged = logged;
     seen = seen;
     holds = temp_written x.base own temp regs room h j v is;
     heard_is = hear;
     is = let next : x.place + at + 1 ≡ x.place + (at + 1) = omega arith in
-        ap (λ (i : ℕ). at_moment i (set regs (sum x.base j) y) w dirty logged seen) next
+        ap (λ (i : ℕ). at_moment i (set regs (sum x.base j) y) w dirty seen) next
         ∙ ap (λ (z : ℤ). at_moment (x.place + (at + 1)) (set regs (sum x.base j) z) w dirty
-        logged seen) e
-        ∙ ap (λ (i : ℕ). at_moment (x.place + (at + 1)) (set regs i v) w dirty logged seen)
+        seen) e
+        ∙ ap (λ (i : ℕ). at_moment (x.place + (at + 1)) (set regs i v) w dirty seen)
         (sum_is x.base j (omega arith));
   }
 
   -- only the world and the place change
-  passes : (l : Loc) (w : World) (regs : List ℤ) (dirty : List ℕ) (logged : ℕ) (seen : List Effect)
-      →
-      FrameHolds x.base l.own l.temp regs → heard seen ≡ w.seen
-      → Same x (local.local_next l w) (at_moment (x.place + l.at + 1) regs w dirty logged seen)
-  passes l w regs dirty logged seen h hear = record {
+  passes : (l : Loc) (w : World) (regs : List ℤ) (dirty : List ℕ) (seen : List Effect)
+      → FrameHolds x.base l.own l.temp regs → heard seen ≡ w.seen
+      → Same x (local.local_next l w) (at_moment (x.place + l.at + 1) regs w dirty seen)
+  passes l w regs dirty seen h hear = record {
     regs = regs;
     dirty = dirty;
-    logged = logged;
     seen = seen;
     holds = record { eight = h.eight; room = h.room; own_is = h.own_is; temp_is = h.temp_is };
     heard_is = hear;
     is = let next : x.place + l.at + 1 ≡ x.place + (l.at + 1) = omega arith in
-        ap (λ (i : ℕ). at_moment i regs w dirty logged seen) next;
+        ap (λ (i : ℕ). at_moment i regs w dirty seen) next;
   }
 
-  jumps : (l : Loc) (t : ℕ) (regs : List ℤ) (dirty : List ℕ) (logged : ℕ) (seen : List Effect) →
+  jumps : (l : Loc) (t : ℕ) (regs : List ℤ) (dirty : List ℕ) (seen : List Effect) →
       FrameHolds x.base l.own l.temp regs → heard seen ≡ l.world.seen → t ≤ n
-      → Same x (go_to l t) (at_moment (sum x.place t) regs l.world dirty logged seen)
-  jumps l t regs dirty logged seen h hear low = record {
+      → Same x (go_to l t) (at_moment (sum x.place t) regs l.world dirty seen)
+  jumps l t regs dirty seen h hear low = record {
     regs = regs;
     dirty = dirty;
-    logged = logged;
     seen = seen;
     holds = record { eight = h.eight; room = h.room; own_is = h.own_is; temp_is = h.temp_is };
     heard_is = hear;
-    is = ap (λ (i : ℕ). at_moment i regs l.world dirty logged seen)
+    is = ap (λ (i : ℕ). at_moment i regs l.world dirty seen)
         (sum_is x.place t (omega arith));
   }
 
-  module _ (l : Loc) (regs : List ℤ) (dirty : List ℕ) (logged : ℕ) (seen : List Effect)
+  module _ (l : Loc) (regs : List ℤ) (dirty : List ℕ) (seen : List Effect)
       (h : FrameHolds x.base l.own l.temp regs) (hear : heard seen ≡ l.world.seen) where
     abbrev now : RunMoment
-    now = at_moment (x.place + l.at) regs l.world dirty logged seen
+    now = at_moment (x.place + l.at) regs l.world dirty seen
 
     abbrev acts : Op → RunStage
-    acts o = staged now (tally (machine.execute image l.world.heap l.world.records now.state
-        (Some o)))
+    acts o = staged now (machine.execute image l.world.heap now.state (Some o))
 
     shared : IsShared l.world now
-    shared = record { heap_is = refl; ticks_is = refl; records_is = refl; heard_is = hear }
+    shared = record { heap_is = refl; ticks_is = refl; heard_is = hear }
 
     frame_read : (a : Reg) → IsReg x.base a → get_or regs (register_number x.base a) (pos 0)
         ≡ local_read l.own l.temp a
@@ -184,7 +177,7 @@ module _ (image : Image) (x : Setting) (n : ℕ) (room : x.base + 8 < 2 ^ 32)
         Follows x (branch_at_zero z (Goes (go_to l t)) (Goes (go_to l (l.at + 1))))
         (staged now (machine.Goes Quiet (if int_eq z (pos 0)
         then machine.moved_to now.state (sum x.place t) else machine.passed now.state)))
-    branches a t (pos zero) low = jumps l t regs dirty logged (Quiet ∷ seen) h hear low
+    branches a t (pos zero) low = jumps l t regs dirty (Quiet ∷ seen) h hear low
     branches a t (pos (suc k)) low =
         let some : int_eq (pos (suc k)) (pos 0) ≡ false =
         (let above : ltb 0 (suc k) ≡ true = lt-ltb 0 (suc k) (omega arith) in
@@ -193,72 +186,49 @@ module _ (image : Image) (x : Setting) (n : ℕ) (room : x.base + 8 < 2 ^ 32)
         subst (λ (b : Bool). Follows x (Goes (go_to l (l.at + 1)))
         (staged now (machine.Goes Quiet (if b then machine.moved_to now.state (sum x.place t)
         else machine.passed now.state)))) (sym some)
-        (passes l l.world regs dirty logged (Quiet ∷ seen) h hear)
-    branches a t (negsuc k) low = passes l l.world regs dirty logged (Quiet ∷ seen) h hear
+        (passes l l.world regs dirty (Quiet ∷ seen) h hear)
+    branches a t (negsuc k) low = passes l l.world regs dirty (Quiet ∷ seen) h hear
 
     loads : (r : Reg) (o : Option ℕ) → IsReg x.base r
         → Follows x (local.local_load l r o)
-        (staged now (tally (machine.load l.world.heap now.state (register_number x.base r) o)))
-    loads r None is = wrote l.at l.own l.temp l.world r (pos 0) (pos 0) regs dirty logged
+        (staged now (machine.load l.world.heap now.state (register_number x.base r) o))
+    loads r None is = wrote l.at l.own l.temp l.world r (pos 0) (pos 0) regs dirty
         (Quiet ∷ seen) h hear is refl
     loads r (Some w) is = wrote l.at l.own l.temp (local.see l.world (Loads w)) r (l.world.heap w)
-        (l.world.heap w) regs dirty logged (Loads w ∷ seen) h
+        (l.world.heap w) regs dirty (Loads w ∷ seen) h
         (ap (λ (es : List Effect). Loads w ∷ es) hear) is refl
 
     stores : (v : ℤ) (o : Option ℕ)
-        → Follows x (local.local_store l v o) (staged now (tally (machine.store now.state v o)))
-    stores v None = passes l l.world regs dirty logged (Quiet ∷ seen) h hear
+        → Follows x (local.local_store l v o) (staged now (machine.store now.state v o))
+    stores v None = passes l l.world regs dirty (Quiet ∷ seen) h hear
     stores v (Some w) = passes l (local.local_stored l.world w v) regs
-        (machine.stored now.state w).dirty logged (Stores w v ∷ seen) h
+        (machine.stored now.state w).dirty (Stores w v ∷ seen) h
         (ap (λ (es : List Effect). Stores w v ∷ es) hear)
 
-    logs : (o : Option ℕ) → Follows x (local.local_log image.parts.sizes.records l o)
-        (staged now (tally (machine.log image.parts.sizes.records l.world.records now.state o)))
-    logs None = passes l l.world regs dirty logged (Quiet ∷ seen) h hear
-    logs (Some w) = by_room (nat_lt l.world.records image.parts.sizes.records)
-      where
-        by_room : (b : Bool) → Follows x
-            (if b then Goes (local.local_next l (local.logged l.world w)) else Traps 7 l.world)
-            (staged now (tally (if b then machine.Goes (Logs w) (machine.passed now.state)
-            else machine.Ends (Trapped trap.LogFull))))
-        by_room true =
-            let e : l.world.records + 1 ≡ suc l.world.records = omega arith in
-            subst (λ (c : ℕ). Same x (local.local_next l
-            (record {
-              heap = l.world.heap;
-              seen = Logs w ∷ l.world.seen;
-              ticks = l.world.ticks;
-              records = l.world.records + 1;
-            }))
-            (at_moment (x.place + l.at + 1) regs
-            (record {
-              heap = l.world.heap;
-              seen = Logs w ∷ l.world.seen;
-              ticks = l.world.ticks;
-              records = c;
-            }) dirty (logged + 1) (Logs w ∷ seen))) e
-            (passes l (local.logged l.world w) regs dirty (logged + 1) (Logs w ∷ seen) h
-            (ap (λ (es : List Effect). Logs w ∷ es) hear))
-        by_room false = (refl, shared)
+    logs : (o : Option ℕ)
+        → Follows x (local.local_log l o) (staged now (machine.log now.state o))
+    logs None = passes l l.world regs dirty (Quiet ∷ seen) h hear
+    logs (Some w) = passes l (local.logged l.world w) regs dirty (Logs w ∷ seen) h
+        (ap (λ (es : List Effect). Logs w ∷ es) hear)
 
     act_as : (i : Local) → IsFine n x.base i
         → Follows x (local.local_act image.parts.sizes l (Some i)) (acts (placed x.base x.place i))
-    act_as (Const r v) is = wrote l.at l.own l.temp l.world r v v regs dirty logged (Quiet ∷ seen) h
+    act_as (Const r v) is = wrote l.at l.own l.temp l.world r v v regs dirty (Quiet ∷ seen) h
         hear is refl
     act_as (Mov r a) is = wrote l.at l.own l.temp l.world r (local_read l.own l.temp a)
-        (get_or regs (register_number x.base a) (pos 0)) regs dirty logged (Quiet ∷ seen)
+        (get_or regs (register_number x.base a) (pos 0)) regs dirty (Quiet ∷ seen)
         h hear is.0
         (frame_read a is.1)
     act_as (Bin o r a b) is =
         wrote l.at l.own l.temp l.world r
         (applied o (local_read l.own l.temp a) (local_read l.own l.temp b))
         (applied o (get_or regs (register_number x.base a) (pos 0))
-        (get_or regs (register_number x.base b) (pos 0))) regs dirty logged (Quiet ∷ seen)
+        (get_or regs (register_number x.base b) (pos 0))) regs dirty (Quiet ∷ seen)
         h hear is.0
         (ap (λ (y : ℤ). applied o y (get_or regs (register_number x.base b) (pos 0)))
         (frame_read a is.1) ∙ ap (λ (y : ℤ). applied o (local_read l.own l.temp a) y)
         (frame_read b is.2))
-    act_as (Jmp t) is = jumps l t regs dirty logged (Quiet ∷ seen) h hear is
+    act_as (Jmp t) is = jumps l t regs dirty (Quiet ∷ seen) h hear is
     act_as (Jz a t) is =
         subst (λ (z : ℤ). Follows x (branch_at_zero z (Goes (go_to l t))
         (Goes (go_to l (l.at + 1)))) (acts (placed x.base x.place (Jz a t)))) (frame_read a is.0)
@@ -272,7 +242,7 @@ module _ (image : Image) (x : Setting) (n : ℕ) (room : x.base + 8 < 2 ^ 32)
     act_as (Find r) is =
         wrote l.at l.own l.temp (local.searched image.parts.sizes l.world) r
         (pos (least image.parts.sizes l.world.heap)) (pos (least image.parts.sizes l.world.heap))
-        regs dirty logged
+        regs dirty
         (Scans (slot_word image.parts.sizes 1) (looks image.parts.sizes l.world.heap) ∷ seen) h
         (ap (λ (es : List Effect). Scans (slot_word image.parts.sizes 1)
         (looks image.parts.sizes l.world.heap) ∷ es) hear) is refl
@@ -286,7 +256,7 @@ module _ (image : Image) (x : Setting) (n : ℕ) (room : x.base + 8 < 2 ^ 32)
         (stores (get_or regs (register_number x.base b) (pos 0))
         (local_target image.parts.sizes (get_or regs (register_number x.base a) (pos 0)) o)))
     act_as (Log a o) is =
-        subst (λ (z : ℤ). Follows x (local.local_log image.parts.sizes.records l
+        subst (λ (z : ℤ). Follows x (local.local_log l
         (local_target image.parts.sizes z o)) (acts (placed x.base x.place (Log a o))))
         (frame_read a is)
         (logs (local_target image.parts.sizes (get_or regs (register_number x.base a) (pos 0)) o))
@@ -294,63 +264,43 @@ module _ (image : Image) (x : Setting) (n : ℕ) (room : x.base + 8 < 2 ^ 32)
       where
         ticks : (t : ℕ) → l.world.ticks ≡ t
             → Follows x (local.local_tick l t)
-            (staged now (tally (if t == 0 then machine.Ends (Trapped trap.Steps)
-            else machine.Goes Quiet (machine.tick_spent now.state))))
+            (staged now (if t == 0 then machine.Ends (Trapped trap.Steps)
+            else machine.Goes Quiet (machine.tick_spent now.state)))
         ticks zero e = (refl, shared)
         ticks (suc t) e =
             let less : l.world.ticks - 1 ≡ t = omega arith in
             let some : (suc t == 0) ≡ false = ne_eqb (suc t) 0 (λ none. absurd (omega arith)) in
-            subst (λ (b : Bool). Follows x
-            (Goes (local.local_next l (record {
-              heap = l.world.heap;
-              seen = l.world.seen;
-              ticks = t;
-              records = l.world.records;
-            })))
-            (staged now (tally (if b then machine.Ends (Trapped trap.Steps)
-            else machine.Goes Quiet (machine.tick_spent now.state))))) (sym some)
-            (subst (λ (c : ℕ). Same x (local.local_next l
-            (record {
-              heap = l.world.heap;
-              seen = l.world.seen;
-              ticks = t;
-              records = l.world.records;
-            })) (at_moment (x.place + l.at + 1) regs
-            (record {
-              heap = l.world.heap;
-              seen = l.world.seen;
-              ticks = c;
-              records = l.world.records;
-            }) dirty logged (Quiet ∷ seen))) (sym less)
-            (passes l (record {
-              heap = l.world.heap;
-              seen = l.world.seen;
-              ticks = t;
-              records = l.world.records;
-            }) regs dirty logged (Quiet ∷ seen) h hear))
+            let fewer : ℕ → World =
+            λ n. record { heap = l.world.heap; seen = l.world.seen; ticks = n } in
+            subst (λ (b : Bool). Follows x (Goes (local.local_next l (fewer t)))
+            (staged now (if b then machine.Ends (Trapped trap.Steps)
+            else machine.Goes Quiet (machine.tick_spent now.state)))) (sym some)
+            (subst (λ (c : ℕ). Same x (local.local_next l (fewer t))
+            (at_moment (x.place + l.at + 1) regs (fewer c) dirty (Quiet ∷ seen))) (sym less)
+            (passes l (fewer t) regs dirty (Quiet ∷ seen) h hear))
     act_as (Trap k) is = (refl, shared)
 
 module _ (image : Image) (x : Setting) (piece : List Local)
     (placed_in : IsPlaced image x.function x.base x.place piece) where
-  fetched : (o : Option Local) (l : Loc) (regs : List ℤ) (dirty : List ℕ) (logged : ℕ)
+  fetched : (o : Option Local) (l : Loc) (regs : List ℤ) (dirty : List ℕ)
       (seen : List Effect) → slice_get piece l.at ≡ o → FrameHolds x.base l.own l.temp regs
       → heard seen ≡ l.world.seen →
       Follows x (local.local_act image.parts.sizes l o)
-      (one image (moment x (x.place + l.at) regs l.world dirty logged seen))
-  fetched None l regs dirty logged seen e h hear = tt
-  fetched (Some i) l regs dirty logged seen e h hear =
-      let m : RunMoment = moment x (x.place + l.at) regs l.world dirty logged seen in
+      (one image (moment x (x.place + l.at) regs l.world dirty seen))
+  fetched None l regs dirty seen e h hear = tt
+  fetched (Some i) l regs dirty seen e h hear =
+      let m : RunMoment = moment x (x.place + l.at) regs l.world dirty seen in
       subst (λ (o : Option Op). Follows x (local.local_act image.parts.sizes l (Some i))
-      (staged m (tally (machine.execute image l.world.heap l.world.records m.state o))))
+      (staged m (machine.execute image l.world.heap m.state o)))
       (sym (placed_in.there l.at i e))
-      (act_as image x (length piece) placed_in.room placed_in.short l regs dirty logged seen h hear
+      (act_as image x (length piece) placed_in.room placed_in.short l regs dirty seen h hear
       i (fine_at (length piece) x.base piece l.at i placed_in.fine e))
 
   pub step_as : (l : Loc) (m : RunMoment) → Same x l m
       → Follows x (local.local_step image.parts.sizes piece l) (one image m)
   step_as l m same = subst (λ (b : RunMoment).
       Follows x (local.local_step image.parts.sizes piece l) (one image b)) (sym same.is)
-      (fetched (slice_get piece l.at) l same.regs same.dirty same.logged same.seen refl same.holds
+      (fetched (slice_get piece l.at) l same.regs same.dirty same.seen refl same.holds
       same.heard_is)
 
   next_as : (n : ℕ) (r : Next World Loc) (s : RunStage) → Follows x r s

@@ -206,6 +206,6 @@ sound_run image s program k heap tx entry args end es has found ran =
     subst (AllByRecursion HasPairs) (sym has.functions) (emits_pairs s program) in
     let opened : OpenFramesTidy image (start image tx args) =
     start_open image s program tx entry args has found tidy in (
-      paired_all image k 0 (start image tx args) heap end es pairs ran,
-      tidy_all image k 0 (start image tx args) heap end es tidy opened ran,
+      paired_all image k (start image tx args) heap end es pairs ran,
+      tidy_all image k (start image tx args) heap end es tidy opened ran,
     )

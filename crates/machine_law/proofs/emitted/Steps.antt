@@ -1,7 +1,7 @@
 -- Pieces that only lead forward end.
 use Rattle.std.proofs.Common.{◌≡◌, ◌⊎◌, inl, inr, ℕ, zero, suc, ◌+◌, ◌-◌, ◌<◌, ◌≤◌, Bool, true}
 use Rattle.std.proofs.Common.{false, List, [], ◌∷◌, ◌++◌, length, slice_get, Option, Some, None, ℤ}
-use Rattle.std.proofs.Common.{pos, negsuc, ltb, refl, sym, ap, subst, arith, length-append, ◌*◌}
+use Rattle.std.proofs.Common.{pos, negsuc, refl, sym, ap, subst, arith, length-append, ◌*◌}
 use Rattle.std.specs.Prelude.{if◌then◌else◌, nat_lt}
 use Rattle.std.specs.List.{AllByRecursion}
 use Rattle.std.proofs.lemmas.Bool.{cases_lt, ltb-false}
@@ -98,14 +98,9 @@ module _ (s : Sizes) (m : ℕ) (l : Loc) (inside : l.at < m) where
   store_on v None = passed_on l.world
   store_on v (Some w) = (omega arith, omega arith)
 
-  log_on : (o : Option ℕ) → Advances l.at m (local_log s.records l o)
+  log_on : (o : Option ℕ) → Advances l.at m (local_log l o)
   log_on None = passed_on l.world
-  log_on (Some w) = by_room (ltb l.world.records s.records)
-    where
-      by_room : (b : Bool) → Advances l.at m (if b then Goes (local_next l (logged l.world w))
-          else Traps 7 l.world)
-      by_room true = (omega arith, omega arith)
-      by_room false = tt
+  log_on (Some w) = passed_on (logged l.world w)
 
   tick_on : (n : ℕ) → Advances l.at m (local_tick l n)
   tick_on zero = tt

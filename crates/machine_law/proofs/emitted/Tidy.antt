@@ -19,9 +19,9 @@ use Rattle.pm_machine.specs.declared.frame.Frame.{Frame}
 use Rattle.pm_machine.specs.declared.image.Image.{Image}
 use Rattle.pm_machine.specs.declared.op.Op.{Op}
 use Rattle.pm_machine.specs.declared.op.Op.TheVariants as op
-use Rattle.pm_machine.specs.Effects.{heap_past, records_past}
+use Rattle.pm_machine.specs.Effects.{heap_past}
 use Rattle.pm_machine.specs.Machine.{State, StepOutcome, Goes, Ends, Run, Finished, began, follow}
-use Rattle.pm_machine.specs.Machine.{run, execute, tally, fetch, fetch_in, target, read_register}
+use Rattle.pm_machine.specs.Machine.{run, execute, fetch, fetch_in, target, read_register}
 use Rattle.pm_machine.specs.Machine.{load, store, log, flush, call, return, passed, moved_to}
 use Rattle.pm_machine.specs.Machine.{tick_spent, entered, frame_at}
 use Rattle.pm_machine.proofs.Fuel.{began_rest}
@@ -116,62 +116,61 @@ halt_is v end es h =
     subst (λ (q : End). HaltEnd q es) same (sym none)
 
 module _ (image : Image) (tidy : (f : ℕ) → IsTidyCode (slice_get image.parts.functions f)) where
-  abbrev next_run : (k n : ℕ) → Words → Effect → State → Run
-  next_run k n heap e t = run image k (records_past n e) t (heap_past heap e)
+  abbrev next_run : (k : ℕ) → Words → Effect → State → Run
+  next_run k heap e t = run image k t (heap_past heap e)
 
   next_after : (s : State) (o : Op) → fetch image s ≡ Some o → MayPrecede o (fetch image (passed s))
   next_after s o e = (tidy s.top.function).next s.top.place o e
 
-  halted : (k n : ℕ) (s : State) (heap : Words) (end : End) (es : List Effect) (a : ℕ)
-      → fetch image s ≡ Some (op.Halt a) → run image k n s heap ≡ Finished end es → HaltEnd end es
-  halted zero n s heap end es a e h = absurd (cc)
-  halted (suc k) n s heap end es a e h =
+  halted : (k : ℕ) (s : State) (heap : Words) (end : End) (es : List Effect) (a : ℕ)
+      → fetch image s ≡ Some (op.Halt a) → run image k s heap ≡ Finished end es → HaltEnd end es
+  halted zero s heap end es a e h = absurd (cc)
+  halted (suc k) s heap end es a e h =
       halt_is (read_register s a) end es
-      (subst (λ (i : Option Op). follow (next_run k n heap) (tally (execute image heap n s i))
+      (subst (λ (i : Option Op). follow (next_run k heap) (execute image heap s i)
       ≡ Finished end es) e h)
 
-  fenced : (k n : ℕ) (s : State) (heap : Words) (end : End) (es : List Effect)
-      → fetch image s ≡ Some op.Fence → run image k n s heap ≡ Finished end es → FenceEnd end es
-  fenced zero n s heap end es e h = absurd (cc)
-  fenced (suc k) n s heap end es e h =
-      let g : began Fences (run image k n (passed s) heap) ≡ Finished end es =
-      subst (λ (i : Option Op). follow (next_run k n heap) (tally (execute image heap n s i))
+  fenced : (k : ℕ) (s : State) (heap : Words) (end : End) (es : List Effect)
+      → fetch image s ≡ Some op.Fence → run image k s heap ≡ Finished end es → FenceEnd end es
+  fenced zero s heap end es e h = absurd (cc)
+  fenced (suc k) s heap end es e h =
+      let g : began Fences (run image k (passed s) heap) ≡ Finished end es =
+      subst (λ (i : Option Op). follow (next_run k heap) (execute image heap s i)
       ≡ Finished end es) e h in
-      let inv = began_rest Fences (run image k n (passed s) heap) end es g in
+      let inv = began_rest Fences (run image k (passed s) heap) end es g in
       let stop = next_after s op.Fence e in
-      fence_end end inv.0 es inv.2 (halted k n (passed s) heap end inv.0 stop.0 stop.1 inv.1)
+      fence_end end inv.0 es inv.2 (halted k (passed s) heap end inv.0 stop.0 stop.1 inv.1)
 
-  flushed_by : (k n : ℕ) (s : State) (heap : Words) (end : End) (es : List Effect)
+  flushed_by : (k : ℕ) (s : State) (heap : Words) (end : End) (es : List Effect)
       → fetch image s ≡ Some op.Flush →
       ((t : State) (rest : List Effect) → fetch image t ≡ Some op.Flush
-      → run image k n t heap ≡ Finished end rest → FlushedEnd t.dirty end rest) →
-      (ls : List ℕ) → s.dirty ≡ ls → follow (next_run k n heap) (tally (flush s (slice_get ls 0)))
+      → run image k t heap ≡ Finished end rest → FlushedEnd t.dirty end rest) →
+      (ls : List ℕ) → s.dirty ≡ ls → follow (next_run k heap) (flush s (slice_get ls 0))
       ≡ Finished end es → FlushedEnd s.dirty end es
-  flushed_by k n s heap end es e next [] is h =
-      let inv = began_rest Quiet (run image k n (passed s) heap) end es h in
+  flushed_by k s heap end es e next [] is h =
+      let inv = began_rest Quiet (run image k (passed s) heap) end es h in
       quiet_end end s.dirty inv.0 es is inv.2
-      (fenced k n (passed s) heap end inv.0 (next_after s op.Flush e) inv.1)
-  flushed_by k n s heap end es e next (l ∷ ls) is h =
+      (fenced k (passed s) heap end inv.0 (next_after s op.Flush e) inv.1)
+  flushed_by k s heap end es e next (l ∷ ls) is h =
       let t : State = record {
         top = s.top;
         below = s.below;
         ticks = s.ticks;
-        logged = s.logged;
         dirty = drop 1 s.dirty;
         size = s.size;
       } in
-      let inv = began_rest (Flushes l) (run image k n t heap) end es h in
+      let inv = began_rest (Flushes l) (run image k t heap) end es h in
       flush_end end l ls s.dirty inv.0 es is inv.2 (next t inv.0 e inv.1)
 
-  flushed : (k n : ℕ) (s : State) (heap : Words) (end : End) (es : List Effect)
-      → fetch image s ≡ Some op.Flush → run image k n s heap ≡ Finished end es
+  flushed : (k : ℕ) (s : State) (heap : Words) (end : End) (es : List Effect)
+      → fetch image s ≡ Some op.Flush → run image k s heap ≡ Finished end es
       → FlushedEnd s.dirty end es
-  flushed zero n s heap end es e h = absurd (cc)
-  flushed (suc k) n s heap end es e h =
-      let g : follow (next_run k n heap) (tally (flush s (slice_get s.dirty 0))) ≡ Finished end es =
-      subst (λ (i : Option Op). follow (next_run k n heap) (tally (execute image heap n s i))
+  flushed zero s heap end es e h = absurd (cc)
+  flushed (suc k) s heap end es e h =
+      let g : follow (next_run k heap) (flush s (slice_get s.dirty 0)) ≡ Finished end es =
+      subst (λ (i : Option Op). follow (next_run k heap) (execute image heap s i)
       ≡ Finished end es) e h in
-      flushed_by k n s heap end es e (λ t rest at ran. flushed k n t heap end rest at ran)
+      flushed_by k s heap end es e (λ t rest at ran. flushed k t heap end rest at ran)
       s.dirty refl g
 
   flushed_tidies : (ls : List ℕ) (end : End) (es : List Effect) → FlushedEnd ls end es
@@ -180,7 +179,7 @@ module _ (image : Image) (tidy : (f : ℕ) → IsTidyCode (slice_get image.parts
   flushed_tidies ls (Trapped k) es h = absurd h
 
   -- a step other than FLUSH, from an open state
-  module _ (heap : Words) (n : ℕ) (s : State) (is_open : OpenFramesTidy image s) where
+  module _ (heap : Words) (s : State) (is_open : OpenFramesTidy image s) where
     abbrev Kept : StepOutcome → Type 0
     Kept (Ends (Halted v)) = ⊥
     Kept (Ends (Trapped k)) = Unit {0}
@@ -238,7 +237,7 @@ module _ (image : Image) (tidy : (f : ℕ) → IsTidyCode (slice_get image.parts
         (one_tidy e t end inv.0 kept (next e t inv.0 (kept_opens e t kept) inv.1))
 
     kept_load : (r : ℕ) (p : Option ℕ) → IsPlainAt (fetch image (passed s))
-        → Kept (tally (load heap s r p))
+        → Kept (load heap s r p)
     kept_load r None plain = (
       record { here = plain; below = is_open.below; last = is_open.last },
       refl,
@@ -253,7 +252,7 @@ module _ (image : Image) (tidy : (f : ℕ) → IsTidyCode (slice_get image.parts
     )
 
     kept_store : (x : ℤ) (p : Option ℕ) → IsPlainAt (fetch image (passed s))
-        → Kept (tally (store s x p))
+        → Kept (store s x p)
     kept_store x None plain = (
       record { here = plain; below = is_open.below; last = is_open.last },
       refl,
@@ -268,17 +267,13 @@ module _ (image : Image) (tidy : (f : ℕ) → IsTidyCode (slice_get image.parts
     )
 
     kept_log : (p : Option ℕ) → IsPlainAt (fetch image (passed s))
-        → Kept (tally (log image.parts.sizes.records n s p))
+        → Kept (log s p)
     kept_log None plain = (
       record { here = plain; below = is_open.below; last = is_open.last },
       refl,
     )
-    kept_log (Some w) plain = by_room (ltb n image.parts.sizes.records)
-      where
-        by_room : (b : Bool) → Kept (tally (if b then Goes (Logs w) (passed s)
-            else Ends (Trapped trap.LogFull)))
-        by_room true = (record { here = plain; below = is_open.below; last = is_open.last }, refl)
-        by_room false = tt
+    kept_log (Some w) plain =
+        (record { here = plain; below = is_open.below; last = is_open.last }, refl)
 
     kept_branch : (t : ℕ) (b : Bool) → IsPlainAt (fetch image (moved_to s t))
         → IsPlainAt (fetch image (passed s))
@@ -289,11 +284,11 @@ module _ (image : Image) (tidy : (f : ℕ) → IsTidyCode (slice_get image.parts
         (record { here = plain; below = is_open.below; last = is_open.last }, refl)
 
     kept_call : (r f : ℕ) (args : List ℕ) → IsPlainAt (fetch image (passed s))
-        → Kept (tally (call s r f args))
+        → Kept (call s r f args)
     kept_call r f args plain = by_depth (ltb (length s.below + 1) 256)
       where
-        by_depth : (b : Bool) → Kept (tally (if b then Goes Quiet (entered s r f args)
-            else Ends (Trapped trap.Depth)))
+        by_depth : (b : Bool) → Kept (if b then Goes Quiet (entered s r f args)
+            else Ends (Trapped trap.Depth))
         by_depth true = (
           record {
             here = (tidy f).first;
@@ -315,7 +310,7 @@ module _ (image : Image) (tidy : (f : ℕ) → IsTidyCode (slice_get image.parts
     no_return a (b ∷ bs) e last none = last_there b bs none
 
     kept_return : (a : ℕ) (v : ℤ) (o : Option Frame) → fetch image s ≡ Some (op.Ret a)
-        → slice_get s.below (length s.below - 1) ≡ o → Kept (tally (return s v o))
+        → slice_get s.below (length s.below - 1) ≡ o → Kept (return s v o)
     kept_return a v None e is = absurd (no_return a s.below e is_open.last is)
     kept_return a v (Some c) e is = (
       record {
@@ -332,7 +327,7 @@ module _ (image : Image) (tidy : (f : ℕ) → IsTidyCode (slice_get image.parts
     )
 
     kept_tick : (b : Bool) → IsPlainAt (fetch image (passed s))
-        → Kept (tally (if b then Ends (Trapped trap.Steps) else Goes Quiet (tick_spent s)))
+        → Kept (if b then Ends (Trapped trap.Steps) else Goes Quiet (tick_spent s))
     kept_tick true plain = tt
     kept_tick false plain = (
       record { here = plain; below = is_open.below; last = is_open.last },
@@ -347,14 +342,14 @@ module _ (image : Image) (tidy : (f : ℕ) → IsTidyCode (slice_get image.parts
     abbrev Ran : Option Op → Type 0
     Ran i = (k : ℕ) (end : End) (es : List Effect)
         → ((e : Effect) (t : State) (rest : List Effect) → OpenFramesTidy image t
-        → next_run k n heap e t ≡ Finished end rest → IsTidyEnd t.dirty end rest) →
-        run image (suc k) n s heap ≡ Finished end es → fetch image s ≡ i → IsTidyEnd s.dirty end es
+        → next_run k heap e t ≡ Finished end rest → IsTidyEnd t.dirty end rest) →
+        run image (suc k) s heap ≡ Finished end es → fetch image s ≡ i → IsTidyEnd s.dirty end es
 
-    by_kept : (i : Option Op) → (fetch image s ≡ i → Kept (tally (execute image heap n s i)))
+    by_kept : (i : Option Op) → (fetch image s ≡ i → Kept (execute image heap s i))
         → Ran i
     by_kept i kept k end es next h e =
-        kept_on (tally (execute image heap n s i)) (next_run k n heap) end es (kept e) next
-        (subst (λ (j : Option Op). follow (next_run k n heap) (tally (execute image heap n s j))
+        kept_on (execute image heap s i) (next_run k heap) end es (kept e) next
+        (subst (λ (j : Option Op). follow (next_run k heap) (execute image heap s j)
         ≡ Finished end es) e h)
 
     plain_here : (o : Op) → fetch image s ≡ Some o → IsPlain o
@@ -412,7 +407,7 @@ module _ (image : Image) (tidy : (f : ℕ) → IsTidyCode (slice_get image.parts
     ran_at (Some (op.Log a o)) = by_kept (Some (op.Log a o))
         (λ e. kept_log (target image s a o) (next_after s (op.Log a o) e))
     ran_at (Some op.Flush) = λ k end es next h e.
-        flushed_tidies s.dirty end es (flushed (suc k) n s heap end es e h)
+        flushed_tidies s.dirty end es (flushed (suc k) s heap end es e h)
     ran_at (Some op.Fence) = λ k end es next h e. absurd (plain_here op.Fence e)
     ran_at (Some (op.Call r f args)) =
         by_kept (Some (op.Call r f args))
@@ -424,12 +419,12 @@ module _ (image : Image) (tidy : (f : ℕ) → IsTidyCode (slice_get image.parts
     ran_at (Some (op.Trap k)) = by_kept (Some (op.Trap k)) (λ e. tt)
     ran_at (Some (op.Halt a)) = λ k end es next h e. absurd (plain_here (op.Halt a) e)
 
-  pub tidy_run : (k n : ℕ) (s : State) (heap : Words) (end : End) (es : List Effect)
-      → OpenFramesTidy image s → run image k n s heap ≡ Finished end es → IsTidyEnd s.dirty end es
-  tidy_run zero n s heap end es is_open h = absurd (cc)
-  tidy_run (suc k) n s heap end es is_open h =
-      ran_at heap n s is_open (fetch image s) k end es (λ e t rest opened ran.
-      tidy_run k (records_past n e) t (heap_past heap e) end rest opened ran) h refl
+  pub tidy_run : (k : ℕ) (s : State) (heap : Words) (end : End) (es : List Effect)
+      → OpenFramesTidy image s → run image k s heap ≡ Finished end es → IsTidyEnd s.dirty end es
+  tidy_run zero s heap end es is_open h = absurd (cc)
+  tidy_run (suc k) s heap end es is_open h =
+      ran_at heap s is_open (fetch image s) k end es (λ e t rest opened ran.
+      tidy_run k t (heap_past heap e) end rest opened ran) h refl
 
 pub tidy_all : TidyLaw
-tidy_all image k n s heap end es tidy is_open h = tidy_run image tidy k n s heap end es is_open h
+tidy_all image k s heap end es tidy is_open h = tidy_run image tidy k s heap end es is_open h

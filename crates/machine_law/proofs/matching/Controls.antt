@@ -1,6 +1,6 @@
 -- Jumps, branches, calls and returns: one step of the machine each, except for the return of a
 -- transaction.
-use Rattle.std.proofs.Common.{◌≡◌, inl, ℕ, zero, suc, ◌+◌, ◌<◌, ◌≤◌, Bool, true, false, List}
+use Rattle.std.proofs.Common.{◌≡◌, ℕ, zero, suc, ◌+◌, ◌<◌, ◌≤◌, Bool, true, false, List}
 use Rattle.std.proofs.Common.{[], ◌∷◌, ◌++◌, length, map, replicate, slice_get, get_or, set, Option}
 use Rattle.std.proofs.Common.{None, Some, ℤ, pos, negsuc, refl, sym, ap, ◌∙◌, subst, arith, ltb}
 use Rattle.std.proofs.Common.{length-set}
@@ -26,7 +26,7 @@ use Rattle.pm_machine.specs.declared.frame.Frame.{Frame}
 use Rattle.pm_machine.specs.declared.image.Image.{Image}
 use Rattle.pm_machine.specs.declared.op.Op.{Op}
 use Rattle.pm_machine.specs.declared.op.Op.TheVariants as op
-use Rattle.pm_machine.specs.Machine.{fetch, fetch_in, tally, moved_to, passed, frame_at, entered}
+use Rattle.pm_machine.specs.Machine.{fetch, fetch_in, moved_to, passed, frame_at, entered}
 use Rattle.pm_machine.specs.Machine.{returned, registers_placed}
 use Rattle.pm_machine.specs.Machine as machine
 use Rattle.codegen.specs.Emit.{instruction_code, return_code}
@@ -109,7 +109,7 @@ module _ (image : Image) (program : Ir) (c : IsCodeOf image program) (f p : ℕ)
   jumps : (q j : ℕ) → j ≡ to_place q
       → MovesToo image program [] (code.Goes (Here f q regs callers w t)) m
       (On (moment_after m Quiet (moved_to m.state j)))
-  jumps q j register_at = inl (record {
+  jumps q j register_at = record {
     to = moment_after m Quiet (moved_to m.state j);
     is = refl;
     match = record {
@@ -119,17 +119,16 @@ module _ (image : Image) (program : Ir) (c : IsCodeOf image program) (f p : ℕ)
       ticks = same.ticks;
       stands = same.stands;
       fits = same.fits;
-      records = same.records;
       clean = record { lines = same.clean.lines; distinct = same.clean.distinct };
     };
     shown = record { effects = []; seen = refl; shows = done };
-  })
+  }
 
   one_step : (i : Instruction) (o : Op) (mv : Move) → slice_get u.code p ≡ Some i →
       slice_get (instruction_code image.parts.sizes program.shapes u.tx u.registers
       (table_of image.parts.sizes program.shapes u) (to_place p) marked i) 0 ≡ Some o →
       MovesToo image program [] mv m
-      (staged m (tally (machine.execute image m.heap m.records m.state (Some o)))) →
+      (staged m (machine.execute image m.heap m.state (Some o))) →
       (n : ℕ) × (n ≤ own_steps + flushes mv m) × MovesToo image program [] mv m (go image n m)
   one_step i o mv e there h = (
     suc zero,
@@ -194,7 +193,6 @@ module _ (image : Image) (program : Ir) (c : IsCodeOf image program) (f p : ℕ)
           ticks = same.ticks;
           stands = same.stands;
           fits = same.fits;
-          records = same.records;
           clean = record { lines = same.clean.lines; distinct = same.clean.distinct };
         }
 
@@ -203,26 +201,26 @@ module _ (image : Image) (program : Ir) (c : IsCodeOf image program) (f p : ℕ)
         MovesToo image program [] (if b
         then code.Goes (Here g 0 (map (register_at regs) args) deeper w t)
         else code.Ends (code.Trapped kinds.Depth)) m
-        (staged m (tally (if b then machine.Goes Quiet (entered m.state r g args)
-        else machine.Ends (Trapped kinds.Depth))))
-    calls_if v found plain true = inl (record {
+        (staged m (if b then machine.Goes Quiet (entered m.state r g args)
+        else machine.Ends (Trapped kinds.Depth)))
+    calls_if v found plain true = record {
       to = moment_after m Quiet (entered m.state r g args);
       is = refl;
       match = called v found plain;
       shown = record { effects = []; seen = refl; shows = done };
-    })
+    }
     calls_if v found plain false =
-        inl (record {
+        record {
           last = m;
           is = refl;
           shown = record { effects = []; seen = refl; shows = done };
-        })
+        }
 
     calls : slice_get u.code p ≡ Some (ir.Call r g args) → (o : Option IrFunction)
         → slice_get program.functions g ≡ o → TakesArgs o args →
         MovesToo image program [] (opens o g (map (register_at regs) args) deeper w t) m
-        (staged m (tally (machine.execute image m.heap m.records m.state
-        (Some (op.Call r g args)))))
+        (staged m (machine.execute image m.heap m.state
+        (Some (op.Call r g args))))
     calls e None is takes = absurd takes
     calls e (Some v) is takes =
         let depth : length m.state.below + 1 ≡ length deeper =
@@ -237,8 +235,8 @@ module _ (image : Image) (program : Ir) (c : IsCodeOf image program) (f p : ℕ)
         subst (λ (n : ℕ). MovesToo image program [] (if nat_lt (length deeper) open_limit
         then code.Goes (Here g 0 (map (register_at regs) args) deeper w t)
         else code.Ends (code.Trapped kinds.Depth)) m
-        (staged m (tally (if nat_lt n 256 then machine.Goes Quiet (entered m.state r g args)
-        else machine.Ends (Trapped kinds.Depth))))) (sym depth)
+        (staged m (if nat_lt n 256 then machine.Goes Quiet (entered m.state r g args)
+        else machine.Ends (Trapped kinds.Depth)))) (sym depth)
         (calls_if v is plain (nat_lt (length deeper) 256))
 
   -- a return
@@ -271,14 +269,14 @@ module _ (image : Image) (program : Ir) (c : IsCodeOf image program) (f p : ℕ)
         let ended = returns image from m first second third in (
           length m.state.dirty + 3,
           omega arith,
-          inl (record {
+          record {
             last = ended.last;
             is = ended.is ∙ ap (λ (v : ℤ). Over (Halted v) ended.last) (same.top.holds from low);
             stands = subst (λ (h : Words). Stands image.parts.sizes h w) (sym ended.heap_is)
                 same.stands;
             fits = same.fits;
             shown = record { effects = []; seen = ended.seen_is; shows = done };
-          }),
+          },
         )
 
     -- the return of a called function
@@ -299,11 +297,11 @@ module _ (image : Image) (program : Ir) (c : IsCodeOf image program) (f p : ℕ)
         let value : v ≡ register_at regs from = same.top.holds from low in
         let moves : go image (suc zero) m ≡ On (moment_after m Quiet (returned m.state v g)) =
         single image m (op.Ret from) there
-        ∙ ap (λ (o : Option Frame). staged m (tally (machine.return m.state v o)))
+        ∙ ap (λ (o : Option Frame). staged m (machine.return m.state v o))
         (nearest hs m.state.below g waits.2) in (
           suc zero,
           omega arith,
-          inl (record {
+          record {
             to = moment_after m Quiet (returned m.state v g);
             is = moves;
             match = record {
@@ -330,11 +328,10 @@ module _ (image : Image) (program : Ir) (c : IsCodeOf image program) (f p : ℕ)
               ticks = same.ticks;
               stands = same.stands;
               fits = same.fits;
-              records = same.records;
               clean = record { lines = same.clean.lines; distinct = same.clean.distinct };
             };
             shown = record { effects = []; seen = refl; shows = done };
-          }),
+          },
         )
 
     gives_back : (cs : List code.Frame) → u.tx ≡ is_outermost cs
@@ -357,8 +354,8 @@ module _ (image : Image) (program : Ir) (c : IsCodeOf image program) (f p : ℕ)
       (subst (λ (z : ℤ). MovesToo image program [] (if is_zero z
       then code.Goes (Here f q regs callers w t) else code.Goes (Here f (suc p) regs callers w t))
       m
-      (staged m (tally (machine.execute image m.heap m.records m.state
-      (Some (op.Jz on (to_place q))))))) (same.top.holds on low.0)
+      (staged m (machine.execute image m.heap m.state
+      (Some (op.Jz on (to_place q)))))) (same.top.holds on low.0)
       (branches q (get_or m.state.top.registers on (pos 0)) (next_at (ir.Branch on q) e refl)))
 
   pub call_step : (r g : ℕ) (args : List ℕ) → slice_get u.code p ≡ Some (ir.Call r g args)

@@ -8,7 +8,6 @@ use Rattle.std.proofs.lemmas.List.{length-replicate}
 use Rattle.cache_model.specs.Cache.{Words}
 use Rattle.pool_map.specs.PoolFits.{PoolFits}
 use Rattle.pool_map.specs.PoolMap.{PoolMap}
-use Rattle.ir.specs.declared.function.IrFunction.{IrFunction}
 use Rattle.ir.specs.declared.function.Ir.{Ir}
 use Rattle.pm_machine.specs.declared.image.Image.{Image}
 use Rattle.pm_machine.specs.declared.op.TxEntry.{TxEntry}
@@ -33,7 +32,7 @@ module _ (image : Image) (program : Ir) (c : IsCodeOf image program) (tx : ℕ) 
     (found : slice_get image.parts.txs (tx - 1) ≡ Some entry) (args : List ℤ) (heap : Words)
     (w : PoolMap) where
   abbrev pub first_moment : RunMoment
-  first_moment = record { state = start image tx args; heap = heap; records = 0; seen = [] }
+  first_moment = record { state = start image tx args; heap = heap; seen = [] }
 
   entered : IsTx 0 program.functions entry
   entered =
@@ -72,6 +71,5 @@ module _ (image : Image) (program : Ir) (c : IsCodeOf image program) (tx : ℕ) 
         ticks = refl;
         stands = stands;
         fits = fits;
-        records = omega arith;
         clean = record { lines = tt; distinct = none_dirty };
       }

@@ -99,7 +99,7 @@ module _ (piece_law : PieceLaw) (fits_law : FitsLaw) (image : Image) (program : 
     }
 
     abbrev world : World
-    world = record { heap = m.heap; seen = heard m.seen; ticks = t; records = m.records }
+    world = record { heap = m.heap; seen = heard m.seen; ticks = t }
 
     abbrev temps : List ℤ
     temps = temporaries (λ j. get_or m.state.top.registers (u.registers + j) (pos 0))
@@ -115,7 +115,6 @@ module _ (piece_law : PieceLaw) (fits_law : FitsLaw) (image : Image) (program : 
     starts = record {
       regs = m.state.top.registers;
       dirty = m.state.dirty;
-      logged = m.state.logged;
       seen = m.seen;
       holds = record {
         eight = refl;
@@ -137,12 +136,10 @@ module _ (piece_law : PieceLaw) (fits_law : FitsLaw) (image : Image) (program : 
               };
               below = m.state.below;
               ticks = same.ticks j;
-              logged = m.state.logged;
               dirty = m.state.dirty;
               size = m.state.size;
             };
             heap = m.heap;
-            records = m.records;
             seen = m.seen;
           });
     }
@@ -179,7 +176,6 @@ module _ (piece_law : PieceLaw) (fits_law : FitsLaw) (image : Image) (program : 
           ticks = ap (λ (k : World). k.ticks) past.world;
           stands = past.stands;
           fits = fits;
-          records = past.records;
           clean = subst (λ (k : RunMoment). IsCleanState image k.state) register_at.is clean;
         })
 
@@ -187,7 +183,7 @@ module _ (piece_law : PieceLaw) (fits_law : FitsLaw) (image : Image) (program : 
     stays =
         let run = piece_law image.parts.sizes program u.registers (length u.code) f p i marked
         (is_logged_in_code program) regs callers w world temps c.fits same.fits same.stands words
-        (well_at image program c f u same.top.found p i e) is (marked_is i e) same.records refl in (
+        (well_at image program c f u same.top.found p i e) is (marked_is i e) refl in (
           run.0,
           omega (arith, run.1),
           combined image program setting f p (length piece) callers m world refl

@@ -1,8 +1,7 @@
 -- The effect of a piece, and the machine's steps for it.
-use Rattle.std.proofs.Common.{◌≡◌, inl, inr, ℕ, suc, ◌+◌, Bool, List, ◌∷◌, ℤ, refl, sym, ap, ◌∙◌}
+use Rattle.std.proofs.Common.{◌≡◌, ℕ, suc, ◌+◌, Bool, List, ◌∷◌, ℤ, refl, sym, ap, ◌∙◌}
 use Rattle.std.proofs.Common.{subst, ◌≤◌, Option}
 use Rattle.pool_map.specs.declared.trap.TrapKind.{TrapKind}
-use Rattle.pool_map.specs.declared.trap.TrapKind.TheVariants as kinds
 use Rattle.pool_map.specs.Trap.{trap_number}
 use Rattle.pool_map.specs.PoolMap.{PoolMap}
 use Rattle.pool_layout.specs.declared.limits.Sizes.{Sizes}
@@ -17,18 +16,17 @@ use Rattle.pm_machine.specs.declared.effect.Effect.TheVariants.{Loads, Scans, St
 use Rattle.pm_machine.specs.declared.effect.End.{End}
 use Rattle.pm_machine.specs.declared.effect.End.TheVariants.{Trapped}
 use Rattle.pm_machine.specs.declared.image.Image.{Image}
-use Rattle.pm_machine.specs.Effects.{records_end}
 use Rattle.pm_alloc.specs.Runs as alone
 use Rattle.pm_alloc.specs.LocalRun.{World, Loc}
 use Rattle.machine_law.specs.emitted.Moments.{RunMoment, RunStage, On, Over, onto, go}
 use Rattle.machine_law.specs.emitted.Placed.{heard, Setting, Same, Follows}
-use Rattle.machine_law.specs.pieces.Law.{onward, PieceEnds, Does, goes, traps, full}
+use Rattle.machine_law.specs.pieces.Law.{onward, PieceEnds, Does, goes, traps}
 use Rattle.machine_law.specs.pieces.Stands.{heap_word, header_word}
 use Rattle.machine_law.specs.pieces.Shows.{ShowsDeeds, done, looks, scans, reads, plain, logs}
-use Rattle.machine_law.specs.pieces.Shows.{heads, IsCutAtStore}
+use Rattle.machine_law.specs.pieces.Shows.{heads}
 use Rattle.machine_law.specs.matching.Accesses.{accesses}
 use Rattle.machine_law.specs.matching.Compiled.{is_logged_in_code}
-use Rattle.machine_law.specs.matching.Match.{AreMatched, StopsFull, EndsToo, MovesToo, own_steps}
+use Rattle.machine_law.specs.matching.Match.{AreMatched, MovesToo, own_steps}
 use Rattle.machine_law.specs.matching.Match.{flushes}
 use Rattle.machine_law.proofs.matching.Effects.{accesses_heard, accesses_onto}
 use Rattle.machine_law.proofs.matching.Leads.{LeadsOn, trap_known}
@@ -69,19 +67,6 @@ Steps image ir f p regs callers w t m o =
     (go image n m)
 
 module _ (image : Image) (ir : Ir) where
-  -- with a full log the machine ends like this, whatever the code does
-  pub full_ends : (ds : List Deed) (m : RunMoment) (g : RunStage) (e : code.CodeEnd)
-      → StopsFull image ir ds m g → EndsToo image ir ds e m g
-  full_ends ds m g (code.Ended w v t) h = inr h
-  full_ends ds m g (code.Trapped k) h = inr h
-  full_ends ds m g code.Unfinished h = tt
-  full_ends ds m g code.Stuck h = tt
-
-  pub full_moves : (ds : List Deed) (m : RunMoment) (g : RunStage) (v : Move)
-      → StopsFull image ir ds m g → MovesToo image ir ds v m g
-  full_moves ds m g (code.Goes c) h = inr h
-  full_moves ds m g (code.Ends e) h = full_ends ds m g e h
-
   module _ (x : Setting) (f p n : ℕ) (callers : List code.Frame) (m : RunMoment) (v : World)
       (heard_is : v.seen ≡ heard m.seen) (ds : List Deed) where
     goes_on : (regs : List ℤ) (w : PoolMap) (t : ℕ) (l : Loc) (es : List Effect)
@@ -95,7 +80,7 @@ module _ (image : Image) (ir : Ir) where
         let hear : heard b.seen ≡ onto es (heard m.seen) =
         ap (λ (k : RunMoment). heard k.seen) same.is ∙ same.heard_is
         ∙ ap (λ (u : World). u.seen) afterwards.world ∙ ap (onto es) heard_is in
-        inl (record {
+        record {
           to = b;
           is = refl;
           match = match b same refl;
@@ -105,7 +90,7 @@ module _ (image : Image) (ir : Ir) where
                 (shown_accesses image.parts.sizes (is_logged_in_code ir) ds es shows);
             shows = shows;
           };
-        })
+        }
 
     traps_on : (k : TrapKind) (es : List Effect)
         → ShowsDeeds image.parts.sizes (is_logged_in_code ir) ds es → (g : RunStage)
@@ -115,7 +100,7 @@ module _ (image : Image) (ir : Ir) where
     traps_on k es shows (Over end b) follows =
         let hear : heard b.seen ≡ onto es (heard m.seen) =
         follows.1.heard_is ∙ ap (onto es) heard_is in
-        inl (record {
+        record {
           last = b;
           is = ap (λ (e : End). Over e b) (follows.0 ∙ ap Trapped (trap_known k));
           shown = record {
@@ -124,23 +109,6 @@ module _ (image : Image) (ir : Ir) where
                 (shown_accesses image.parts.sizes (is_logged_in_code ir) ds es shows);
             shows = shows;
           };
-        })
-
-    full_on : (es : List Effect) → IsCutAtStore image.parts.sizes (is_logged_in_code ir) ds es
-        → records_end v.records es ≡ image.parts.sizes.records → (g : RunStage)
-        → Follows x (alone.Traps 7 (onward v es v.ticks)) g → StopsFull image ir ds m g
-    full_on es cut many (On b) follows = absurd follows
-    full_on es cut many (Over end b) follows =
-        let hear : heard b.seen ≡ onto es (heard m.seen) =
-        follows.1.heard_is ∙ ap (onto es) heard_is in
-        record {
-          last = b;
-          is = ap (λ (e : End). Over e b) (follows.0 ∙ ap Trapped (trap_known kinds.LogFull));
-          records = follows.1.records_is ∙ many;
-          effects = es;
-          seen = seen_is es b.seen m.seen hear
-              (shown_accesses image.parts.sizes (is_logged_in_code ir) cut.before es cut.shows);
-          cut = cut;
         }
 
     at_next : (g q : ℕ) (regs : List ℤ) (cs : List code.Frame) (w : PoolMap) (t : ℕ) (s : RunStage)
@@ -171,5 +139,3 @@ module _ (image : Image) (ir : Ir) where
         ∙ ap (λ (i : ℕ). code.Goes (Here f i regs cs w t)) leads.1
         ∙ ap (λ (ks : List code.Frame). code.Goes (Here f (suc p) regs ks w t)) leads.2)))
     combined mv r g (traps k es shows) leads follows match = traps_on k es shows g follows
-    combined mv r g (full es cut many) leads follows match =
-        full_moves ds m g mv (full_on es cut many g follows)

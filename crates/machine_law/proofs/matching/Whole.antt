@@ -1,6 +1,6 @@
 -- The whole run, step by step.
-use Rattle.std.proofs.Common.{◌≡◌, inl, inr, ℕ, zero, suc, ◌+◌, ◌*◌, ◌≤◌, List, [], ◌∷◌, ◌++◌}
-use Rattle.std.proofs.Common.{length, refl, sym, ap, ◌∙◌, subst, arith, append_assoc, suc-mul}
+use Rattle.std.proofs.Common.{◌≡◌, ℕ, zero, suc, ◌+◌, ◌*◌, ◌≤◌, List, [], ◌∷◌, ◌++◌}
+use Rattle.std.proofs.Common.{length, refl, sym, ap, ◌∙◌, subst, arith, suc-mul}
 use Rattle.ir.specs.declared.function.Ir.{Ir}
 use Rattle.code_meaning.specs.Code.{CodeState, Here, Move, go_on, instruction_step, exec}
 use Rattle.code_meaning.specs.Code as code
@@ -12,14 +12,13 @@ use Rattle.machine_law.proofs.emitted.Dirty.{grow_all}
 use Rattle.machine_law.proofs.emitted.Moments as moments
 use Rattle.machine_law.specs.pieces.Law.{PieceLaw}
 use Rattle.machine_law.specs.pieces.Pools.{FitsLaw}
-use Rattle.machine_law.specs.pieces.Shows.{ShowsLaw, CutsLaw}
+use Rattle.machine_law.specs.pieces.Shows.{ShowsLaw}
 use Rattle.machine_law.specs.pieces.Words.{IsWordState, IsWordMove, WordsLaw}
 use Rattle.machine_law.proofs.pieces.Shown.{onto_append}
 use Rattle.machine_law.specs.matching.Accesses.{accesses}
 use Rattle.machine_law.specs.matching.Compiled.{IsCodeOf, is_logged_in_code}
-use Rattle.machine_law.specs.matching.Match.{Match, HasShown, StopsFull, EndsToo, MovesToo}
+use Rattle.machine_law.specs.matching.Match.{Match, HasShown, EndsToo, MovesToo}
 use Rattle.machine_law.specs.matching.Match.{own_steps, flushes, most, MatchLaw}
-use Rattle.machine_law.proofs.matching.Moves.{full_ends}
 use Rattle.machine_law.proofs.matching.Steps.{step_meets}
 
 pub matched : PieceLaw → FitsLaw → MatchLaw
@@ -31,26 +30,7 @@ nothing_more [] = refl
 nothing_more (d ∷ ds) = ap (λ (cs : List Deed). d ∷ cs) (nothing_more ds)
 
 module _ (image : Image) (program : Ir) where
-  full_more : (ds cs : List Deed) (m : RunMoment) (g : RunStage) → StopsFull image program ds m g
-      → StopsFull image program (ds ++ cs) m g
-  full_more ds cs m g h = record {
-    last = h.last;
-    is = h.is;
-    records = h.records;
-    effects = h.effects;
-    seen = h.seen;
-    cut = record {
-      before = h.cut.before;
-      due = h.cut.due;
-      later = h.cut.later ++ cs;
-      is = ap (λ (es : List Deed). es ++ cs) h.cut.is
-          ∙ append_assoc h.cut.before (h.cut.due ∷ h.cut.later) cs;
-      takes_log = h.cut.takes_log;
-      shows = h.cut.shows;
-    };
-  }
-
-  module _ (shows_law : ShowsLaw) (cuts_law : CutsLaw) (ds cs : List Deed) (m b : RunMoment)
+  module _ (shows_law : ShowsLaw) (ds cs : List Deed) (m b : RunMoment)
       (g : RunStage) (first : HasShown image program ds m b) where
     seen_on : (last : RunMoment) (es : List Effect) → accesses last.seen ≡ onto es (accesses b.seen)
         → accesses last.seen ≡ onto (first.effects ++ es) (accesses m.seen)
@@ -66,35 +46,21 @@ module _ (image : Image) (program : Ir) where
           first.shows h.shows;
     }
 
-    full_on : StopsFull image program cs b g → StopsFull image program (ds ++ cs) m g
-    full_on h = record {
-      last = h.last;
-      is = h.is;
-      records = h.records;
-      effects = first.effects ++ h.effects;
-      seen = seen_on h.last h.effects h.seen;
-      cut = cuts_law image.parts.sizes (is_logged_in_code program) ds cs first.effects h.effects
-          first.shows h.cut;
-    }
-
     ends_on : (e : code.CodeEnd) → EndsToo image program cs e b g
         → EndsToo image program (ds ++ cs) e m g
-    ends_on (code.Ended w v t) (inl h) =
-        inl (record {
-          last = h.last;
-          is = h.is;
-          stands = h.stands;
-          fits = h.fits;
-          shown = shown_on h.last h.shown;
-        })
-    ends_on (code.Ended w v t) (inr h) = inr (full_on h)
-    ends_on (code.Trapped k) (inl h) =
-        inl (record { last = h.last; is = h.is; shown = shown_on h.last h.shown })
-    ends_on (code.Trapped k) (inr h) = inr (full_on h)
+    ends_on (code.Ended w v t) h = record {
+      last = h.last;
+      is = h.is;
+      stands = h.stands;
+      fits = h.fits;
+      shown = shown_on h.last h.shown;
+    }
+    ends_on (code.Trapped k) h =
+        record { last = h.last; is = h.is; shown = shown_on h.last h.shown }
     ends_on code.Unfinished h = tt
     ends_on code.Stuck h = tt
 
-  module _ (piece_law : PieceLaw) (fits_law : FitsLaw) (shows_law : ShowsLaw) (cuts_law : CutsLaw)
+  module _ (piece_law : PieceLaw) (fits_law : FitsLaw) (shows_law : ShowsLaw)
       (words_law : WordsLaw) (c : IsCodeOf image program) where
     abbrev Whole : ℕ → List Deed → code.CodeEnd → RunMoment → Type 0
     Whole k ds e m =
@@ -107,7 +73,7 @@ module _ (image : Image) (program : Ir) where
         ((d : CodeState) (b : RunMoment) → IsWordState d → Match image program d b
         → Whole k (deeds program k d) (exec program k d) b)
         → Whole (suc k) (ds ++ deeds_on (deeds program k) mv) (go_on (exec program k) mv) m
-    next k ds m n (code.Goes d) few words (inl h) rest =
+    next k ds m n (code.Goes d) few words h rest =
         let total : suc k * most ≡ k * most + most = suc-mul k most in
         let r = rest d h.to words h.match in
         let dirty : length h.to.state.dirty ≤ length m.state.dirty + n =
@@ -117,15 +83,8 @@ module _ (image : Image) (program : Ir) where
           subst (λ (g : RunStage).
               EndsToo image program (ds ++ deeds program k d) (exec program k d) m g)
               (sym (moments.go_on image n r.0 m h.to (go image r.0 h.to) h.is refl))
-              (ends_on shows_law cuts_law ds (deeds program k d) m h.to (go image r.0 h.to) h.shown
+              (ends_on shows_law ds (deeds program k d) m h.to (go image r.0 h.to) h.shown
               (exec program k d) r.2),
-        )
-    next k ds m n (code.Goes d) few words (inr h) rest =
-        let total : suc k * most ≡ k * most + most = suc-mul k most in (
-          n,
-          omega (arith, few),
-          full_ends image program (ds ++ deeds program k d) m (go image n m)
-              (exec program k d) (full_more ds (deeds program k d) m (go image n m) h),
         )
     next k ds m n (code.Ends e) few words h rest =
         let total : suc k * most ≡ k * most + most = suc-mul k most in (

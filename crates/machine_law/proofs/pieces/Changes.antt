@@ -1,7 +1,7 @@
 -- A pool after a change of one word or one slot, and the heap that stands for it.
 use Rattle.std.proofs.Common.{◌≡◌, ◌≢◌, ◌⊎◌, inl, inr, ⊎_elim, ℕ, zero, suc, ◌+◌, ◌-◌, ◌<◌, ◌≤◌}
 use Rattle.std.proofs.Common.{Bool, true, false, List, ◌++◌, length, Option, None, Some}
-use Rattle.std.proofs.Common.{IsSomeAnd, IfSome, option_map, replicate, get_or, set, ℤ, pos, refl}
+use Rattle.std.proofs.Common.{IsSomeAnd, IfSome, option_map, get_or, set, ℤ, pos, refl}
 use Rattle.std.proofs.Common.{sym, ap, ◌∙◌, subst, arith, slice_get}
 use Rattle.std.specs.Prelude.{if◌then◌else◌}
 use Rattle.std.proofs.lemmas.Bool.{cases_eq, cases_lt, lt-ltb}

@@ -1,6 +1,5 @@
--- A run of a part of a piece that shows deeds and keeps the piece's registers, or is cut because
--- the log is full.
-use Rattle.std.proofs.Common.{◌≡◌, ℕ, ◌+◌, ◌≤◌, Bool, List, [], ◌++◌, length, sym, ap, ◌∙◌, subst}
+-- A run of a part of a piece that shows deeds and keeps the piece's registers.
+use Rattle.std.proofs.Common.{◌≡◌, ℕ, ◌+◌, Bool, List, [], ◌++◌, length, sym, ap, ◌∙◌, subst}
 use Rattle.std.proofs.Common.{ℤ}
 use Rattle.pool_layout.specs.declared.limits.Sizes.{Sizes}
 use Rattle.pool_map.specs.PoolMap.{PoolMap}
@@ -11,55 +10,33 @@ use Rattle.code_meaning.specs.Deeds.{Deed}
 use Rattle.pool_map.specs.declared.trap.TrapKind.{TrapKind}
 use Rattle.pool_map.specs.Trap.{trap_number}
 use Rattle.pm_machine.specs.declared.effect.Effect.{Effect}
-use Rattle.pm_machine.specs.Effects.{records_end}
-use Rattle.pm_alloc.specs.Runs.{Next, Goes, Traps, then, local_run}
+use Rattle.pm_alloc.specs.Runs.{Next, Goes, Traps, local_run}
 use Rattle.pm_alloc.specs.LocalRun.{World, Loc, local_step}
 use Rattle.pm_alloc.specs.declared.local.Local.{Local}
-use Rattle.pm_alloc.proofs.Runs.{run_add, run_on}
-use Rattle.machine_law.specs.pieces.Shows.{ShowsDeeds, IsCutAtStore}
-use Rattle.machine_law.specs.pieces.Law.{onward, PieceEnds, Does, goes, traps, full}
-use Rattle.machine_law.proofs.pieces.Shown.{shown, cut, cut_later, onward_append, records_append}
+use Rattle.pm_alloc.proofs.Runs.{run_on}
+use Rattle.machine_law.specs.pieces.Shows.{ShowsDeeds}
+use Rattle.machine_law.specs.pieces.Law.{onward, PieceEnds, Does, goes, traps}
+use Rattle.machine_law.proofs.pieces.Shown.{shown, onward_append}
 
 module _ (s : Sizes) (logged : Site → Bool) where
   -- from world v the run r shows the deeds by the effects, and reaches the given place
   pub data Comes (v : World) (ds : List Deed) (es : List Effect) (there : World → Loc)
       (r : Next World Loc) : Type 0 where
-    comes : ShowsDeeds s logged ds es → records_end v.records es ≤ s.records
-        → r ≡ Goes (there (onward v es v.ticks)) → Comes v ds es there r
-    cuts : (fs : List Effect) → IsCutAtStore s logged ds fs → records_end v.records fs ≡ s.records
-        → r ≡ Traps 7 (onward v fs v.ticks) → Comes v ds es there r
+    comes : ShowsDeeds s logged ds es → r ≡ Goes (there (onward v es v.ticks))
+        → Comes v ds es there r
 
 module _ (s : Sizes) (logged : Site → Bool) (piece : List Local) where
-  pub trap_on : (i j : ℕ) (l : Loc) (k : ℕ) (w : World) → local_run (local_step s piece) i l
-      ≡ Traps k w → local_run (local_step s piece) (i + j) l ≡ Traps k w
-  trap_on i j l k w e = run_add (local_step s piece) i j l
-      ∙ ap (λ r. then r (local_run (local_step s piece) j)) e
-
   -- one part after the other
   pub comes_on : (i j : ℕ) (l : Loc) (v : World) (ds cs : List Deed) (es fs : List Effect)
       (mid last : World → Loc) →
       Comes s logged v ds es mid (local_run (local_step s piece) i l) →
-      (records_end v.records es ≤ s.records
-      → Comes s logged (onward v es v.ticks) cs fs last
-      (local_run (local_step s piece) j (mid (onward v es v.ticks)))) →
+      Comes s logged (onward v es v.ticks) cs fs last
+      (local_run (local_step s piece) j (mid (onward v es v.ticks))) →
       Comes s logged v (ds ++ cs) (es ++ fs) last (local_run (local_step s piece) (i + j) l)
-  comes_on i j l v ds cs es fs mid last (cuts gs c at_limit e) more =
-      cuts gs (cut_later s logged ds cs gs c) at_limit (trap_on i j l 7 _ e)
-  comes_on i j l v ds cs es fs mid last (comes shows few e) more = then_on (more few)
-    where
-      then_on : Comes s logged (onward v es v.ticks) cs fs last
-          (local_run (local_step s piece) j (mid (onward v es v.ticks)))
-          → Comes s logged v (ds ++ cs) (es ++ fs) last (local_run (local_step s piece) (i + j) l)
-      then_on (comes shows' few' e') =
-          comes (shown s logged ds cs es fs shows shows')
-          (subst (λ (n : ℕ). n ≤ s.records) (records_append es fs v.records) few')
-          (run_on (local_step s piece) i j l (mid (onward v es v.ticks)) _ e e'
-          ∙ ap (λ (u : World). Goes (last u)) (onward_append v es fs v.ticks v.ticks))
-      then_on (cuts gs c at_limit e') =
-          cuts (es ++ gs) (cut s logged ds cs es gs shows c) (sym (records_append es gs v.records)
-          ∙ at_limit)
-          (run_on (local_step s piece) i j l (mid (onward v es v.ticks)) _ e e'
-          ∙ ap (λ (u : World). Traps 7 u) (onward_append v es gs v.ticks v.ticks))
+  comes_on i j l v ds cs es fs mid last (comes first e) (comes second f) =
+      comes (shown s logged ds cs es fs first second)
+      (run_on (local_step s piece) i j l (mid (onward v es v.ticks)) _ e f
+      ∙ ap (λ (u : World). Goes (last u)) (onward_append v es fs v.ticks v.ticks))
 
   -- and steps after it that don't change the world
   pub comes_quiet : (i j : ℕ) (l : Loc) (v : World) (ds : List Deed) (es : List Effect)
@@ -67,28 +44,21 @@ module _ (s : Sizes) (logged : Site → Bool) (piece : List Local) where
       Comes s logged v ds es mid (local_run (local_step s piece) i l)
       → ((u : World) → local_run (local_step s piece) j (mid u) ≡ Goes (last u))
       → Comes s logged v ds es last (local_run (local_step s piece) (i + j) l)
-  comes_quiet i j l v ds es mid last (cuts gs c at_limit e) more =
-      cuts gs c at_limit (trap_on i j l 7 _ e)
-  comes_quiet i j l v ds es mid last (comes shows few e) more =
-      comes shows few (run_on (local_step s piece) i j l (mid (onward v es v.ticks)) _ e
+  comes_quiet i j l v ds es mid last (comes shows e) more =
+      comes shows (run_on (local_step s piece) i j l (mid (onward v es v.ticks)) _ e
       (more (onward v es v.ticks)))
 
   -- the piece ends at the place that the part reaches
   pub done_by : (i : ℕ) (l : Loc) (v : World) (ds : List Deed) (es : List Effect) (last : World
       → Loc) (f p : ℕ) (regs : List ℤ) (below : List Frame) (w : PoolMap) (t : ℕ) →
       Comes s logged v ds es last (local_run (local_step s piece) i l) →
-      (records_end v.records es ≤ s.records
-      → PieceEnds s (length piece) v es regs w t (last (onward v es v.ticks))) →
+      PieceEnds s (length piece) v es regs w t (last (onward v es v.ticks)) →
       Does s logged (length piece) v ds (code.Goes (Here f p regs below w t))
       (local_run (local_step s piece) i l)
-  done_by i l v ds es last f p regs below w t (comes shows few e) afterwards =
+  done_by i l v ds es last f p regs below w t (comes shows e) afterwards =
       subst (λ (r : Next World Loc).
       Does s logged (length piece) v ds (code.Goes (Here f p regs below w t)) r) (sym e)
-      (goes es shows (afterwards few))
-  done_by i l v ds es last f p regs below w t (cuts fs c is e) afterwards =
-      subst (λ (r : Next World Loc).
-      Does s logged (length piece) v ds (code.Goes (Here f p regs below w t)) r) (sym e)
-      (full fs c is)
+      (goes es shows afterwards)
 
   -- a trap after loads of headers
   pub traps_by : (i : ℕ) (l : Loc) (v : World) (es : List Effect) (k : TrapKind)

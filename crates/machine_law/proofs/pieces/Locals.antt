@@ -1,5 +1,5 @@
 -- The piece of each instruction except `new` does what the instruction does.
-use Rattle.std.proofs.Common.{◌≡◌, ⊎_elim, ℕ, zero, suc, ◌+◌, ◌-◌, ◌*◌, ◌^◌, ◌≤◌, Bool, false, List}
+use Rattle.std.proofs.Common.{◌≡◌, ⊎_elim, ℕ, zero, suc, ◌-◌, ◌^◌, ◌≤◌, Bool, false, List}
 use Rattle.std.proofs.Common.{[], ◌∷◌, length, None, Some, ℤ, pos, negsuc, refl, sym, ap, ◌∙◌}
 use Rattle.std.proofs.Common.{subst, arith, ne_eqb}
 use Rattle.std.specs.Prelude.{◌==◌, if◌then◌else◌}
@@ -61,7 +61,7 @@ divisor (negsuc n) word = ne_eqb (2 ^ 64 - suc n) 0 (λ e. absurd (omega (arith,
 
 module _ (s : Sizes) (logged : Site → Bool) (shapes : Shapes) (f p : ℕ) (regs : List ℤ)
     (below : List Frame) (x : ℕ → ℤ) (v : World) (w : PoolMap) (fit : IsFit s shapes)
-    (fits : PoolFits shapes w) (stands : Stands s v.heap w) (few : v.records ≤ s.records) where
+    (fits : PoolFits shapes w) (stands : Stands s v.heap w) where
   abbrev first : Loc
   first = local_start (register_at regs) x v
 
@@ -84,14 +84,13 @@ module _ (s : Sizes) (logged : Site → Bool) (shapes : Shapes) (f p : ℕ) (reg
     done_by s logged piece k first v [] []
         (λ u. record { at = length piece; own = own; temp = temporaries x; world = u }) f (suc p)
         regs' below w v.ticks
-        (comes done few path)
-        (λ room. record {
+        (comes done path)
+        (record {
           place = refl;
           temp = refl;
           own = same;
           world = refl;
           stands = stands;
-          records = few;
         }),
   )
 
@@ -118,7 +117,7 @@ module _ (s : Sizes) (logged : Site → Bool) (shapes : Shapes) (f p : ℕ) (reg
       ap (λ (n : ℕ). (then) (local_tick first n) (local_run (local_step s (Tick ∷ [])) 0)) e in
       (1, omega arith, traps_by s logged (Tick ∷ []) 1 first v [] trap.Steps done path)
   tick_does (suc t) e =
-      let less : World = record { heap = v.heap; seen = v.seen; ticks = t; records = v.records } in
+      let less : World = record { heap = v.heap; seen = v.seen; ticks = t } in
       let path : local_run (local_step s (Tick ∷ [])) 1 first
       ≡ Goes (record { at = 1; own = register_at regs; temp = temporaries x; world = less }) =
       rw e refl in (
@@ -133,7 +132,6 @@ module _ (s : Sizes) (logged : Site → Bool) (shapes : Shapes) (f p : ℕ) (reg
                   refl;
               world = refl;
               stands = stands;
-              records = few;
             })),
       )
 

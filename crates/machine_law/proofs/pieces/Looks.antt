@@ -1,7 +1,7 @@
 -- The search for a free slot finds the pool's least free one, and only loads headers.
 use Rattle.std.proofs.Common.{◌≡◌, ℕ, zero, suc, ◌+◌, ◌<◌, ◌≤◌, Bool, true, false, List, [], ◌∷◌}
 use Rattle.std.proofs.Common.{length, Option, None, Some, IfSome, IsSomeAnd, get_or, ℤ, pos, refl}
-use Rattle.std.proofs.Common.{sym, ap, ◌∙◌, subst, arith, ltb, ◌-◌}
+use Rattle.std.proofs.Common.{sym, ap, ◌∙◌, subst, arith, ltb}
 use Rattle.std.specs.Prelude.{if◌then◌else◌}
 use Rattle.std.specs.List.{AllByRecursion}
 use Rattle.std.specs.Ordering.{int_eq}
@@ -19,8 +19,6 @@ use Rattle.pm_machine.specs.declared.effect.Effect.{Effect}
 use Rattle.pm_machine.specs.declared.effect.Effect.TheVariants.{Scans}
 use Rattle.pm_machine.specs.Find.{free_of, least, looks}
 use Rattle.pm_machine.proofs.Range.{looks_within}
-use Rattle.pm_alloc.specs.declared.local.Local.TheVariants as local
-use Rattle.pm_alloc.specs.Runs.{then}
 use Rattle.machine_law.specs.pieces.Stands.{Stands, header_of}
 use Rattle.machine_law.specs.pieces.Shows.{ShowsDeeds, done, scans}
 

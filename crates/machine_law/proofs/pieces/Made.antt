@@ -23,7 +23,7 @@ use Rattle.code_meaning.specs.Code.{fields_of}
 use Rattle.code_meaning.specs.Code as code
 use Rattle.code_meaning.specs.Deeds.{Deed, Heads, zeros, deeds_new, site}
 use Rattle.pm_machine.specs.declared.effect.Effect.{Effect}
-use Rattle.pm_machine.specs.Effects.{heap_end, records_end}
+use Rattle.pm_machine.specs.Effects.{heap_end}
 use Rattle.pm_machine.specs.Find.{least}
 use Rattle.pm_alloc.specs.declared.local.Reg.TheVariants.{Own, Temp}
 use Rattle.pm_alloc.specs.declared.local.Local.{Local}
@@ -39,7 +39,7 @@ use Rattle.machine_law.specs.pieces.Stands.{Stands, header_word}
 use Rattle.machine_law.specs.pieces.Fits.{IsFit}
 use Rattle.machine_law.specs.pieces.Shows.{ShowsDeeds}
 use Rattle.machine_law.specs.pieces.Law.{onward}
-use Rattle.machine_law.proofs.pieces.Shown.{heap_append, looks_heap, looks_records}
+use Rattle.machine_law.proofs.pieces.Shown.{heap_append, looks_heap}
 use Rattle.machine_law.proofs.pieces.Comes.{Comes, comes, comes_on, comes_quiet, done_by}
 use Rattle.pm_alloc.proofs.New.{Here, here_all, here_back}
 use Rattle.machine_law.proofs.pieces.Stores.{store_effects, zero_effects}
@@ -51,12 +51,12 @@ use Rattle.machine_law.proofs.pieces.Looks.{number_of, looks_of, looks_show, lea
 
 module _ (s : Sizes) (logged : Site → Bool) (shapes : Shapes) (f p : ℕ) (regs : List ℤ)
     (below : List Frame) (x : ℕ → ℤ) (v : World) (w : PoolMap) (fit : IsFit s shapes)
-    (fits : PoolFits shapes w) (stands : Stands s v.heap w) (few : v.records ≤ s.records) where
+    (fits : PoolFits shapes w) (stands : Stands s v.heap w) where
   abbrev first : Loc
   first = local_start (register_at regs) x v
 
   abbrev Does_all : List Local → List Deed → Move → Type 0
-  Does_all piece ds move = Done s logged shapes f p regs below x v w fit fits stands few
+  Does_all piece ds move = Done s logged shapes f p regs below x v w fit fits stands
       piece ds move
 
   module _ (to kind c : ℕ) (b : Bool) (marked : logged (site f p true) ≡ b) (short : c ≤ 15) where
@@ -83,10 +83,6 @@ module _ (s : Sizes) (logged : Site → Bool) (shapes : Shapes) (f p : ℕ) (reg
 
     shows : ShowsDeeds s logged [] es
     shows = looks_show s v.heap logged
-
-    still_few : records_end v.records es ≤ s.records
-    still_few = subst (λ (n : ℕ). n ≤ s.records)
-        (sym (looks_records s logged [] es v.records shows refl)) few
 
     whole : 8 + length fill + 1 ≡ length piece
     whole =
@@ -121,16 +117,15 @@ module _ (s : Sizes) (logged : Site → Bool) (shapes : Shapes) (f p : ℕ) (reg
           (loc (8 + length fill + 1) (cache.put (register_at regs) to (pos 0)) (found 0))
           (comes_quiet s logged piece 1 1 first v [] es (loc 1 (register_at regs) (found 0))
           (loc (8 + length fill) (register_at regs) (found 0))
-          (comes shows still_few (search 0 is)) (λ u. refl))
+          (comes shows (search 0 is)) (λ u. refl))
           (mov (found 0)))
-          (λ room. record {
+          (record {
             place = whole;
             temp = refl;
             own = written_is regs to (pos 0);
             world = refl;
             stands = subst (λ (h : Words). Stands s h w)
                 (sym (looks_heap s logged [] es v.heap shows refl)) stands;
-            records = room;
           }),
     )
 
@@ -175,16 +170,16 @@ module _ (s : Sizes) (logged : Site → Bool) (shapes : Shapes) (f p : ℕ) (reg
           (local_run (local_step s piece) (1 + 4) first)
       to_head =
           comes_quiet s logged piece 1 4 first v [] es (loc 1 (register_at regs) (found q))
-          (loc 5 (register_at regs) temp1) (comes shows still_few (search q is)) scaled
+          (loc 5 (register_at regs) temp1) (comes shows (search q is)) scaled
 
       headed : Comes s logged v (Heads (site f p false) q (pos kind) ∷ []) (es ++ head)
           (loc 7 (register_at regs) temp1) (local_run (local_step s piece) (1 + 4 + 2) first)
       headed =
           comes_on s logged piece (1 + 4) 2 first v [] (Heads (site f p false) q (pos kind) ∷ []) es
           head (loc 5 (register_at regs) temp1) (loc 7 (register_at regs) temp1) to_head
-          (λ room. head_comes s logged piece (register_at regs) temp1 5 q (onward v es v.ticks)
+          (head_comes s logged piece (register_at regs) temp1 5 q (onward v es v.ticks)
           (Temp 1) (Temp 5) (offset s 0) (pos kind) (site f p false) (refl, (refl, tt)) address
-          (low, within) room refl)
+          (low, within) refl)
 
       to_fill : Comes s logged v (Heads (site f p false) q (pos kind) ∷ []) (es ++ head)
           (loc 8 (register_at regs) temp2) (local_run (local_step s piece) (1 + 4 + 2 + 1) first)
@@ -201,9 +196,9 @@ module _ (s : Sizes) (logged : Site → Bool) (shapes : Shapes) (f p : ℕ) (reg
           (Heads (site f p false) q (pos kind) ∷ []) (zeros (site f p true) q 0 c) (es ++ head)
           zeros_in (loc 8 (register_at regs) temp2)
           (loc (8 + length fill) (register_at regs) temp2) to_fill
-          (λ room. fill_comes s logged piece (register_at regs) temp2 fit.pool b (site f p true)
+          (fill_comes s logged piece (register_at regs) temp2 fit.pool b (site f p true)
           marked q low within refl refl c 0 8 (onward v (es ++ head) v.ticks)
-          (Mov (Own to) (Temp 0) ∷ []) rest_here (omega arith) room)
+          (Mov (Own to) (Temp 0) ∷ []) rest_here (omega arith))
 
       heap_is : heap_end v.heap ((es ++ head) ++ zeros_in) ≡ heap_end v.heap (head ++ zeros_in)
       heap_is = ap (heap_end v.heap) (append_assoc es head zeros_in)
@@ -228,14 +223,13 @@ module _ (s : Sizes) (logged : Site → Bool) (shapes : Shapes) (f p : ℕ) (reg
             ((es ++ head) ++ zeros_in) (loc (8 + length fill) (register_at regs) temp2)
             (loc (8 + length fill + 1) (cache.put (register_at regs) to (pos q)) temp2) filled
             (mov temp2))
-            (λ room. record {
+            (record {
               place = whole;
               temp = refl;
               own = written_is regs to (pos q);
               world = refl;
               stands = subst (λ (h : Words). Stands s h (new w q kind c)) (sym heap_is)
                   (stands_new s shapes v.heap w fit fits stands b q kind c (low, high) short);
-              records = room;
             }),
       )
 

@@ -22,7 +22,7 @@ use Rattle.code_meaning.specs.Code as code
 use Rattle.code_meaning.specs.Deeds.{Deed, Reads, Writes, Heads, site, if_ok}
 use Rattle.pm_machine.specs.declared.effect.Effect.{Effect}
 use Rattle.pm_machine.specs.declared.effect.Effect.TheVariants.{Loads}
-use Rattle.pm_machine.specs.Effects.{heap_end, records_end}
+use Rattle.pm_machine.specs.Effects.{heap_end}
 use Rattle.pm_alloc.specs.declared.local.Reg.TheVariants.{Own, Temp}
 use Rattle.pm_alloc.specs.declared.local.Local.{Local}
 use Rattle.pm_alloc.specs.declared.local.Local.TheVariants.{Const, Load}
@@ -38,7 +38,7 @@ use Rattle.machine_law.specs.pieces.Stands.{Stands, heap_word, header_word}
 use Rattle.machine_law.specs.pieces.Fits.{IsFit}
 use Rattle.machine_law.specs.pieces.Shows.{ShowsDeeds, done, reads, IsThere}
 use Rattle.machine_law.specs.pieces.Law.{onward}
-use Rattle.machine_law.proofs.pieces.Shown.{heap_append, looks_heap, looks_records}
+use Rattle.machine_law.proofs.pieces.Shown.{heap_append, looks_heap}
 use Rattle.machine_law.proofs.pieces.Comes.{comes, comes_on, done_by, traps_by}
 use Rattle.machine_law.proofs.pieces.Addresses.{within}
 use Rattle.pm_alloc.proofs.New.{Here, here_all}
@@ -52,23 +52,19 @@ use Rattle.machine_law.specs.pieces.Words.{HoldWords}
 
 module _ (s : Sizes) (logged : Site → Bool) (shapes : Shapes) (f p : ℕ) (regs : List ℤ)
     (below : List Frame) (x : ℕ → ℤ) (v : World) (w : PoolMap) (fit : IsFit s shapes)
-    (fits : PoolFits shapes w) (stands : Stands s v.heap w) (few : v.records ≤ s.records)
+    (fits : PoolFits shapes w) (stands : Stands s v.heap w)
     (words : HoldWords regs) where
   abbrev first : Loc
   first = local_start (register_at regs) x v
 
   abbrev pub Does_all : List Local → List Deed → Move → Type 0
-  Does_all piece ds move = Done s logged shapes f p regs below x v w fit fits stands few
+  Does_all piece ds move = Done s logged shapes f p regs below x v w fit fits stands
       piece ds move
 
   -- after the header loads of the checks the world is unchanged, except for the loads
   still : (es : List Effect) → ShowsDeeds s logged [] es → Stands s (heap_end v.heap es) w
   still es shows = subst (λ (h : Words). Stands s h w)
       (sym (looks_heap s logged [] es v.heap shows refl)) stands
-
-  still_few : (es : List Effect) → ShowsDeeds s logged [] es → records_end v.records es ≤ s.records
-  still_few es shows = subst (λ (n : ℕ). n ≤ s.records)
-      (sym (looks_records s logged [] es v.records shows refl)) few
 
   module _ (r : ℕ) (y : Target) (is : IsTarget shapes r y) where
     abbrev code_of : List Local
@@ -95,9 +91,9 @@ module _ (s : Sizes) (logged : Site → Bool) (shapes : Shapes) (f p : ℕ) (reg
           below w v.ticks
           (comes_on s logged (load_code s shapes to y) led.0 1 first v [] (Reads z ∷ []) es
           (Loads (heap_word s z) ∷ []) mid last
-          (comes led.2.1.0 (still_few es led.2.1.0) reach.path)
-          (λ room. comes (reads z there done) room path))
-          (λ room. record {
+          (comes led.2.1.0 reach.path)
+          (comes (reads z there done) path))
+          (record {
             place = length_is;
             temp = refl;
             own = written_is regs to (load_spot w z);
@@ -105,7 +101,6 @@ module _ (s : Sizes) (logged : Site → Bool) (shapes : Shapes) (f p : ℕ) (reg
             stands =
                 subst (λ (h : Words). Stands s h w)
                 (sym (heap_append es (Loads (heap_word s z) ∷ []) v.heap)) (still es led.2.1.0);
-            records = room;
           }),
     )
       where
@@ -205,11 +200,11 @@ module _ (s : Sizes) (logged : Site → Bool) (shapes : Shapes) (f p : ℕ) (reg
             (comes_on s logged (assign_code s shapes b y from) led.0 (store_steps b) first v []
             (Writes (site f p false) z value ∷ []) es (store_effects b (heap_word s z) value) mid
             last
-            (comes led.2.1.0 (still_few es led.2.1.0) reach.path)
-            (λ room. store_comes s logged (assign_code s shapes b y from) (register_at regs) temp b
+            (comes led.2.1.0 reach.path)
+            (store_comes s logged (assign_code s shapes b y from) (register_at regs) temp b
             (length code_of) z u (Temp 0) (Own from) reach.by value (site f p false) marked here
-            reach.address there room refl))
-            (λ room. record {
+            reach.address there refl))
+            (record {
               place = length_is b;
               temp = refl;
               own = λ r.
@@ -217,7 +212,6 @@ module _ (s : Sizes) (logged : Site → Bool) (shapes : Shapes) (f p : ℕ) (reg
               world = refl;
               stands = subst (λ (h : Words). Stands s h (store_spot w z value))
                   (sym heap_is) (stands_store s shapes v.heap w fit fits stands z value reach.has);
-              records = room;
             }),
       )
         where
@@ -313,12 +307,12 @@ module _ (s : Sizes) (logged : Site → Bool) (shapes : Shapes) (f p : ℕ) (reg
           (free w n) v.ticks
           (comes_on s logged freeing (c.0 + 1) 2 first v [] (Heads (site f p false) n (pos 0) ∷ [])
           es (store_effects true (header_word s n) (pos 0)) (loc 13) (loc 15)
-          (comes c.2.1.0 (still_few es c.2.1.0)
+          (comes c.2.1.0
           (run_on (local_step s freeing) c.0 1 first _ _ c.2.1.1.1.2 refl))
-          (λ room. head_comes s logged freeing (register_at regs) temp 13 n (onward v es v.ticks)
+          (head_comes s logged freeing (register_at regs) temp 13 n (onward v es v.ticks)
           (Temp 0) (Temp 1) (offset s 0) (pos 0) (site f p false) (refl, (refl, tt)) address
-          (obj.low, obj.high) room refl))
-          (λ room. record {
+          (obj.low, obj.high) refl))
+          (record {
             place = refl;
             temp = refl;
             own = λ r. refl;
@@ -326,7 +320,6 @@ module _ (s : Sizes) (logged : Site → Bool) (shapes : Shapes) (f p : ℕ) (reg
             stands =
                 subst (λ (h : Words). Stands s h (free w n)) (sym heap_is)
                 (stands_free s shapes v.heap w fit fits stands n slot);
-            records = room;
           }),
     )
       where

@@ -27,37 +27,37 @@ use Rattle.machine_law.proofs.pieces.Made.{new_does}
 
 module _ (s : Sizes) (logged : Site → Bool) (program : Ir) (r n f p : ℕ) (regs : List ℤ)
     (below : List Frame) (x : ℕ → ℤ) (v : World) (w : PoolMap) (fit : IsFit s program.shapes)
-    (fits : PoolFits program.shapes w) (stands : Stands s v.heap w) (few : v.records ≤ s.records)
+    (fits : PoolFits program.shapes w) (stands : Stands s v.heap w)
     (words : HoldWords regs) (b : Bool) where
   does : (i : Instruction) → IsInstruction program r n i → Stays i → AgreesOnSites logged f p b i →
-      Done s logged program.shapes f p regs below x v w fit fits stands few
+      Done s logged program.shapes f p regs below x v w fit fits stands
       (local_code s program.shapes b i) (deeds_at program.shapes f p regs w (Some i))
       (act program (Some i) f p regs below w v.ticks)
   does (ir.Const to c) is stays marked =
-      const_does s logged program.shapes f p regs below x v w fit fits stands few to c
+      const_does s logged program.shapes f p regs below x v w fit fits stands to c
   does (ir.Copy to from) is stays marked =
-      copy_does s logged program.shapes f p regs below x v w fit fits stands few to from
+      copy_does s logged program.shapes f p regs below x v w fit fits stands to from
   does (ir.Bin o to left right) is stays marked =
-      bin_does s logged program.shapes f p regs below x v w fit fits stands few o to left right
+      bin_does s logged program.shapes f p regs below x v w fit fits stands o to left right
       (words right)
   does (ir.Load to y) is stays marked =
-      load_does s logged program.shapes f p regs below x v w fit fits stands few
+      load_does s logged program.shapes f p regs below x v w fit fits stands
       words r y is.1 to
   does (ir.Store y from line) is stays marked =
-      store_does s logged program.shapes f p regs below x v w fit fits stands few
+      store_does s logged program.shapes f p regs below x v w fit fits stands
       words r y is.1 b from marked
   does (ir.New to kind fill line) is stays marked =
-      new_does s logged program.shapes f p regs below x v w fit fits stands few to kind fill
+      new_does s logged program.shapes f p regs below x v w fit fits stands to kind fill
       is.1 marked
   does (ir.Free from kind line) is stays marked =
-      free_does s logged program.shapes f p regs below x v w fit fits stands few
+      free_does s logged program.shapes f p regs below x v w fit fits stands
       words from kind is.1.0
   does ir.Tick is stays marked =
-      tick_does s logged program.shapes f p regs below x v w fit fits stands few v.ticks refl
+      tick_does s logged program.shapes f p regs below x v w fit fits stands v.ticks refl
   does (ir.Trap k) is stays marked =
-      trap_does s logged program.shapes f p regs below x v w fit fits stands few k
+      trap_does s logged program.shapes f p regs below x v w fit fits stands k
   does (ir.Log y) is stays marked =
-      log_does s logged program.shapes f p regs below x v w fit fits stands few
+      log_does s logged program.shapes f p regs below x v w fit fits stands
   does (ir.Jump q) is stays marked = absurd stays
   does (ir.Branch on q) is stays marked = absurd stays
   does (ir.Call to g args) is stays marked = absurd stays
@@ -77,11 +77,11 @@ eight_are (a ∷ b ∷ c ∷ d ∷ e ∷ f ∷ g ∷ h ∷ i ∷ rest) long = ab
 
 pub piece_does : PieceLaw
 piece_does s program r n f p i b logged regs below w v temp fit fits stands words is stays marked
-    few long =
+    long =
     subst (λ (ts : List ℤ). (k : ℕ) × (k ≤ 40)
     × Does s logged (length (local_code s program.shapes b i)) v
     (deeds_at program.shapes f p regs w (Some i)) (act program (Some i) f p regs below w v.ticks)
     (local_run (local_step s (local_code s program.shapes b i)) k
     (record { at = 0; own = register_at regs; temp = ts; world = v }))) (eight_are temp long)
-    (does s logged program r n f p regs below (λ j. get_or temp j (pos 0)) v w fit fits stands few
+    (does s logged program r n f p regs below (λ j. get_or temp j (pos 0)) v w fit fits stands
     words b i is stays marked)

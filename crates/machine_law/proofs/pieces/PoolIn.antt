@@ -7,7 +7,7 @@ use Rattle.std.proofs.lemmas.Option.{slice_get_cases}
 use Rattle.cache_model.specs.Cache.{Words}
 use Rattle.pool_layout.specs.declared.limits.Sizes.{Sizes}
 use Rattle.pool_layout.specs.Headers.{HasHeaders}
-use Rattle.pm_machine.specs.HeapPool.{words_from, pool_in}
+use Rattle.pm_machine.specs.HeapPool.{words_from}
 use Rattle.pool_map.specs.declared.object.Object.{Object}
 use Rattle.pool_map.specs.declared.shapes.StructShape.{StructShape}
 use Rattle.pool_map.specs.declared.shapes.Shapes.{Shapes}

@@ -1,15 +1,15 @@
 -- Deeds that effects show one after another are shown together.
-use Rattle.std.proofs.Common.{◌≡◌, ℕ, Bool, List, [], ◌∷◌, ◌++◌, refl, sym, ap, ◌∙◌, append_assoc}
+use Rattle.std.proofs.Common.{◌≡◌, ℕ, Bool, List, [], ◌∷◌, ◌++◌, refl, sym}
 use Rattle.cache_model.specs.Cache.{Words}
 use Rattle.pool_layout.specs.declared.limits.Sizes.{Sizes}
 use Rattle.ir.specs.declared.site.Site.{Site}
 use Rattle.code_meaning.specs.Deeds.{Deed}
 use Rattle.pm_machine.specs.declared.effect.Effect.{Effect}
-use Rattle.pm_machine.specs.Effects.{heap_past, heap_end, records_past, records_end}
+use Rattle.pm_machine.specs.Effects.{heap_past, heap_end}
 use Rattle.machine_law.specs.emitted.Moments.{onto}
 use Rattle.pm_alloc.specs.LocalRun.{World}
 use Rattle.machine_law.specs.pieces.Shows.{ShowsDeeds, done, looks, scans, reads, plain, logs}
-use Rattle.machine_law.specs.pieces.Shows.{heads, IsCutAtStore, ShowsLaw, CutsLaw}
+use Rattle.machine_law.specs.pieces.Shows.{heads, ShowsLaw}
 use Rattle.machine_law.specs.pieces.Law.{onward}
 
 pub shown : ShowsLaw
@@ -27,37 +27,10 @@ shown s logged ds cs es fs (logs {ds = ds'} {es = es'} site x v there is rest) m
 shown s logged ds cs es fs (heads {ds = ds'} {es = es'} site q v there rest) more =
     heads site q v there (shown s logged ds' cs es' fs rest more)
 
-pub cut : CutsLaw
-cut s logged ds cs es fs first c = record {
-  before = ds ++ c.before;
-  due = c.due;
-  later = c.later;
-  is = ap (λ (xs : List Deed). ds ++ xs) c.is ∙ sym (append_assoc ds c.before (c.due ∷ c.later));
-  takes_log = c.takes_log;
-  shows = shown s logged ds c.before es fs first c.shows;
-}
-
--- more deeds may follow a list that is cut
-pub cut_later : (s : Sizes) (logged : Site → Bool) (ds cs : List Deed) (es : List Effect)
-    → IsCutAtStore s logged ds es → IsCutAtStore s logged (ds ++ cs) es
-cut_later s logged ds cs es c = record {
-  before = c.before;
-  due = c.due;
-  later = c.later ++ cs;
-  is = ap (λ (xs : List Deed). xs ++ cs) c.is ∙ append_assoc c.before (c.due ∷ c.later) cs;
-  takes_log = c.takes_log;
-  shows = c.shows;
-}
-
 pub heap_append : (es fs : List Effect) (heap : Words)
     → heap_end heap (es ++ fs) ≡ heap_end (heap_end heap es) fs
 heap_append [] fs heap = refl
 heap_append (e ∷ es) fs heap = heap_append es fs (heap_past heap e)
-
-pub records_append : (es fs : List Effect) (n : ℕ) → records_end (records_end n es) fs
-    ≡ records_end n (es ++ fs)
-records_append [] fs n = refl
-records_append (e ∷ es) fs n = records_append es fs (records_past n e)
 
 pub onto_append : (es fs seen : List Effect) → onto (es ++ fs) seen ≡ onto fs (onto es seen)
 onto_append [] fs seen = refl
@@ -69,7 +42,6 @@ onward_append v es fs t u = λ i. record {
   heap = sym (heap_append es fs v.heap) i;
   seen = sym (onto_append es fs v.seen) i;
   ticks = u;
-  records = records_append es fs v.records i;
 }
 
 -- loads of headers change nothing
@@ -84,15 +56,3 @@ looks_heap s logged ds es heap (reads x there rest) e = absurd (cc)
 looks_heap s logged ds es heap (plain site x v there is rest) e = absurd (cc)
 looks_heap s logged ds es heap (logs site x v there is rest) e = absurd (cc)
 looks_heap s logged ds es heap (heads site q v there rest) e = absurd (cc)
-
-pub looks_records : (s : Sizes) (logged : Site → Bool) (ds : List Deed) (es : List Effect) (n : ℕ)
-    → ShowsDeeds s logged ds es → ds ≡ [] → records_end n es ≡ n
-looks_records s logged ds es n done e = refl
-looks_records s logged ds es n (looks {ds = ds'} {es = es'} q there rest) e =
-    looks_records s logged ds' es' n rest e
-looks_records s logged ds es n (scans {ds = ds'} {es = es'} k few rest) e =
-    looks_records s logged ds' es' n rest e
-looks_records s logged ds es n (reads x there rest) e = absurd (cc)
-looks_records s logged ds es n (plain site x v there is rest) e = absurd (cc)
-looks_records s logged ds es n (logs site x v there is rest) e = absurd (cc)
-looks_records s logged ds es n (heads site q v there rest) e = absurd (cc)

@@ -1,10 +1,9 @@
--- A store with or without its log, and the zeros of a new object, whether or not the log has room.
+-- A store with or without its log, and the zeros of a new object.
 use Rattle.std.proofs.Common.{◌≡◌, ℕ, zero, suc, ◌+◌, ◌*◌, ◌≤◌, Bool, true, false, List, [], ◌∷◌}
 use Rattle.std.proofs.Common.{◌++◌, length, Some, ℤ, pos, refl, sym, ap, ◌∙◌, subst, arith, ltb}
 use Rattle.std.proofs.Common.{append_assoc, get_or}
 use Rattle.std.specs.Prelude.{◌+ℤ◌, slice_get}
 use Rattle.std.specs.Int.{w64, int_wrap}
-use Rattle.std.proofs.lemmas.Bool.{ltb-true, ltb-false}
 use Rattle.cache_model.specs.Cache.{Words}
 use Rattle.pool_layout.specs.declared.limits.Sizes.{Sizes}
 use Rattle.pool_layout.specs.declared.places.HeapPlace.TheVariants.{Header}
@@ -12,7 +11,7 @@ use Rattle.pool_layout.specs.Places.{IsHeapPlace}
 use Rattle.pool_layout.specs.Sizes.{heap_words, slot_word}
 use Rattle.ir.specs.declared.site.Site.{Site}
 use Rattle.code_meaning.specs.Code.{Spot, InSlot}
-use Rattle.code_meaning.specs.Deeds.{Deed, Writes, Heads, zeros}
+use Rattle.code_meaning.specs.Deeds.{Writes, Heads, zeros}
 use Rattle.pm_machine.specs.declared.effect.Effect.{Effect}
 use Rattle.pm_machine.specs.declared.effect.Effect.TheVariants.{Stores, Logs}
 use Rattle.pm_alloc.specs.declared.local.Reg.{Reg}
@@ -21,17 +20,16 @@ use Rattle.pm_alloc.specs.declared.local.Local.{Local}
 use Rattle.pm_alloc.specs.declared.local.Local.TheVariants.{Store, Log}
 use Rattle.pm_alloc.specs.Pieces.{offset, store_code, fill_code}
 use Rattle.pm_alloc.specs.Search.{IsPool}
-use Rattle.pm_alloc.specs.Runs.{Next, Goes, Traps, local_run}
+use Rattle.pm_alloc.specs.Runs.{Next, Goes, local_run}
 use Rattle.pm_alloc.specs.LocalRun.{World, Loc, local_read, local_step}
 use Rattle.pm_alloc.proofs.Runs.{run_on}
 use Rattle.pm_alloc.proofs.Search.{address_is}
 use Rattle.machine_law.specs.pieces.Stands.{heap_word, header_word}
-use Rattle.machine_law.specs.pieces.Shows.{ShowsDeeds, done, plain, logs, heads, IsThere}
-use Rattle.machine_law.specs.pieces.Shows.{IsCutAtStore}
+use Rattle.machine_law.specs.pieces.Shows.{done, plain, logs, heads, IsThere}
 use Rattle.machine_law.specs.pieces.Law.{onward}
 use Rattle.pm_alloc.proofs.New.{Here}
 use Rattle.machine_law.proofs.pieces.Addresses.{within, header_within}
-use Rattle.machine_law.proofs.pieces.Comes.{Comes, comes, cuts, comes_on}
+use Rattle.machine_law.proofs.pieces.Comes.{Comes, comes, comes_on}
 
 -- the effects of a store and of c zeros
 abbrev pub store_effects : Bool → ℕ → ℤ → List Effect
@@ -74,103 +72,43 @@ module _ (s : Sizes) (logged : Site → Bool) (piece : List Local) (own : Words)
       (onward v (Stores q (local_read own temp a) ∷ []) v.ticks))
   stored_run p q v x a o here at inside = rw (here, at, inside) refl
 
-  logged_run : (p q : ℕ) (v : World) (x : Reg) (o : ℤ) → slice_get piece p ≡ Some (Log x o)
-      → int_wrap w64 (local_read own temp x +ℤ o) ≡ pos q → ltb q (heap_words s) ≡ true
-      → ltb v.records s.records ≡ true
-      → go 1 (loc p v) ≡ Goes (loc (p + 1) (onward v (Logs q ∷ []) v.ticks))
-  logged_run p q v x o here at inside room =
-      let more : v.records + 1 ≡ suc v.records = omega arith in
-      run_is ∙ ap (λ (n : ℕ). Goes (loc (p + 1)
-      (record { heap = v.heap; seen = Logs q ∷ v.seen; ticks = v.ticks; records = n }))) more
-    where
-      run_is : go 1 (loc p v) ≡ Goes
-          (loc (p + 1) (record {
-            heap = v.heap;
-            seen = Logs q ∷ v.seen;
-            ticks = v.ticks;
-            records = v.records + 1;
-          }))
-      run_is = rw (here, at, inside, room) refl
-
-  full_run : (p q : ℕ) (v : World) (x : Reg) (o : ℤ) → slice_get piece p ≡ Some (Log x o)
-      → int_wrap w64 (local_read own temp x +ℤ o) ≡ pos q → ltb q (heap_words s) ≡ true
-      → ltb v.records s.records ≡ false → go 2 (loc p v) ≡ Traps 7 v
-  full_run p q v x o here at inside room = rw (here, at, inside, room) refl
-
   with_log : (p q : ℕ) (v : World) (x a : Reg) (o : ℤ) → slice_get piece p ≡ Some (Log x o)
       → slice_get piece (p + 1) ≡ Some (Store x o a) → int_wrap w64 (local_read own temp x +ℤ o)
-      ≡ pos q → ltb q (heap_words s) ≡ true → ltb v.records s.records ≡ true
+      ≡ pos q → ltb q (heap_words s) ≡ true
       → go 2 (loc p v) ≡ Goes (loc (p + 1 + 1)
       (onward v (Logs q ∷ Stores q (local_read own temp a) ∷ []) v.ticks))
-  with_log p q v x a o here next at inside room =
-      run_on (local_step s piece) 1 1 _ _ _ (logged_run p q v x o here at inside room)
+  with_log p q v x a o here next at inside =
+      let noted : go 1 (loc p v) ≡ Goes (loc (p + 1) (onward v (Logs q ∷ []) v.ticks)) =
+      rw (here, at, inside) refl in
+      run_on (local_step s piece) 1 1 _ _ _ noted
       (stored_run (p + 1) q (onward v (Logs q ∷ []) v.ticks) x a o next at inside)
-
-  -- a logged store whose deed is the first of a list
-  module _ (p q : ℕ) (v : World) (x a : Reg) (o : ℤ) (here : slice_get piece p ≡ Some (Log x o))
-      (next : slice_get piece (p + 1) ≡ Some (Store x o a))
-      (at : int_wrap w64 (local_read own temp x +ℤ o) ≡ pos q)
-      (inside : ltb q (heap_words s) ≡ true)
-      (few : v.records ≤ s.records) where
-    log_comes : (d : Deed) → ShowsDeeds s logged (d ∷ []) (Logs q ∷ Stores q (local_read own temp a)
-        ∷ []) → IsCutAtStore s logged (d ∷ []) []
-        → Comes s logged v (d ∷ []) (Logs q ∷ Stores q (local_read own temp a) ∷ [])
-        (loc (p + 1 + 1))
-        (go 2 (loc p v))
-    log_comes d shows cut = by (ltb v.records s.records) refl
-      where
-        by : (b : Bool) → ltb v.records s.records ≡ b
-            → Comes s logged v (d ∷ []) (Logs q ∷ Stores q (local_read own temp a) ∷ [])
-            (loc (p + 1 + 1)) (go 2 (loc p v))
-        by true room = comes shows (ltb-true v.records s.records room)
-            (with_log p q v x a o here next at inside room)
-        by false room = cuts [] cut (omega (arith, ltb-false v.records s.records room))
-            (full_run p q v x o here at inside room)
 
   pub head_comes : (p q : ℕ) (v : World) (x a : Reg) (o k : ℤ) (site : Site)
       → Here piece p (store_code true x o a) → int_wrap w64 (local_read own temp x +ℤ o)
-      ≡ pos (header_word s q) → IsHeapPlace s (Header q) → v.records ≤ s.records
-      → local_read own temp a ≡ k →
+      ≡ pos (header_word s q) → IsHeapPlace s (Header q) → local_read own temp a ≡ k →
       Comes s logged v (Heads site q k ∷ []) (store_effects true (header_word s q) k)
       (loc (p + 1 + 1)) (go 2 (loc p v))
-  head_comes p q v x a o k site here at there few is =
+  head_comes p q v x a o k site here at there is =
       subst (λ (z : ℤ). Comes s logged v (Heads site q z ∷ [])
       (store_effects true (header_word s q) z) (loc (p + 1 + 1)) (go 2 (loc p v))) is
-      (log_comes p (header_word s q) v x a o here.0 here.1.0 at (header_within s q there) few
-      (Heads site q (local_read own temp a)) (heads site q (local_read own temp a) there done)
-      (record {
-        before = [];
-        due = Heads site q (local_read own temp a);
-        later = [];
-        is = refl;
-        takes_log = tt;
-        shows = done;
-      }))
+      (comes (heads site q (local_read own temp a) there done)
+      (with_log p (header_word s q) v x a o here.0 here.1.0 at (header_within s q there)))
 
   pub store_comes : (b : Bool) (p : ℕ) (y : Spot) (v : World) (x a : Reg) (o k : ℤ) (site : Site)
       → logged site ≡ b → Here piece p (store_code b x o a)
       → int_wrap w64 (local_read own temp x +ℤ o) ≡ pos (heap_word s y) → IsThere s y
-      → v.records ≤ s.records → local_read own temp a ≡ k →
+      → local_read own temp a ≡ k →
       Comes s logged v (Writes site y k ∷ []) (store_effects b (heap_word s y) k)
       (loc (store_end b p)) (go (store_steps b) (loc p v))
-  store_comes true p y v x a o k site marked here at there few is =
+  store_comes true p y v x a o k site marked here at there is =
       subst (λ (z : ℤ). Comes s logged v (Writes site y z ∷ [])
       (store_effects true (heap_word s y) z) (loc (p + 1 + 1)) (go 2 (loc p v))) is
-      (log_comes p (heap_word s y) v x a o here.0 here.1.0 at (within s y there) few
-      (Writes site y (local_read own temp a))
-      (logs site y (local_read own temp a) there marked done)
-      (record {
-        before = [];
-        due = Writes site y (local_read own temp a);
-        later = [];
-        is = refl;
-        takes_log = marked;
-        shows = done;
-      }))
-  store_comes false p y v x a o k site marked here at there few is =
+      (comes (logs site y (local_read own temp a) there marked done)
+      (with_log p (heap_word s y) v x a o here.0 here.1.0 at (within s y there)))
+  store_comes false p y v x a o k site marked here at there is =
       subst (λ (z : ℤ). Comes s logged v (Writes site y z ∷ [])
       (store_effects false (heap_word s y) z) (loc (p + 1)) (go 1 (loc p v))) is
-      (comes (plain site y (local_read own temp a) there marked done) few
+      (comes (plain site y (local_read own temp a) there marked done)
       (stored_run p (heap_word s y) v x a o here.0 at (within s y there)))
 
   -- the zeros of the object in slot q, from word i on: temporary 1 is 16 times the slot, temporary
@@ -196,12 +134,12 @@ module _ (s : Sizes) (logged : Site → Bool) (piece : List Local) (own : Words)
     one_end true j c p = omega arith
 
     pub fill_comes : (c i p : ℕ) (v : World) (rest : List Local)
-        → Here piece p (fill_code s b (i + 1) c ++ rest) → i + c ≤ 15 → v.records ≤ s.records →
+        → Here piece p (fill_code s b (i + 1) c ++ rest) → i + c ≤ 15 →
         Comes s logged v (zeros site q i c) (zero_effects s b q i c)
         (loc (p + length (fill_code s b (i + 1) c))) (go (fill_steps b c) (loc p v))
-    fill_comes zero i p v rest here short few = let e : p ≡ p + 0 = omega arith in
-        comes done few (ap (λ (n : ℕ). Goes (loc n v)) e)
-    fill_comes (suc c) i p v rest here short few =
+    fill_comes zero i p v rest here short = let e : p ≡ p + 0 = omega arith in
+        comes done (ap (λ (n : ℕ). Goes (loc n v)) e)
+    fill_comes (suc c) i p v rest here short =
         let code : List Local = fill_code s b (i + 1 + 1) c in
         let parts = store_room i p (code ++ rest)
         (subst (Here piece p) (append_assoc (store_code b (Temp 1) (offset s (i + 1)) (Temp 6))
@@ -213,7 +151,7 @@ module _ (s : Sizes) (logged : Site → Bool) (piece : List Local) (own : Words)
         ∙ address_is s q (i + 1) low (omega (arith, pool.few)) pool.lines (omega arith)
         ∙ ap pos word in
         let first = store_comes b p (InSlot q i) v (Temp 1) (Temp 6) (offset s (i + 1)) (pos 0) site
-        marked parts.0 at there few e6 in
+        marked parts.0 at there e6 in
         let same : suc i + 1 ≡ i + 1 + 1 = omega arith in
         let v' : World = onward v (store_effects b (heap_word s (InSlot q i)) (pos 0)) v.ticks in
         let end : store_end b p + length (fill_code s b (suc i + 1) c) ≡ p
@@ -225,6 +163,6 @@ module _ (s : Sizes) (logged : Site → Bool) (piece : List Local) (own : Words)
         (Writes site (InSlot q i) (pos 0) ∷ []) (zeros site q (suc i) c)
         (store_effects b (heap_word s (InSlot q i)) (pos 0)) (zero_effects s b q (suc i) c)
         (loc (store_end b p)) (loc (store_end b p + length (fill_code s b (suc i + 1) c))) first
-        (λ room. fill_comes c (suc i) (store_end b p) v' rest
+        (fill_comes c (suc i) (store_end b p) v' rest
         (subst (λ (j : ℕ). Here piece (store_end b p) (fill_code s b j c ++ rest)) (sym same)
-        parts.1) (omega arith) room))
+        parts.1) (omega arith)))

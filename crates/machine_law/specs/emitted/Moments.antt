@@ -1,17 +1,16 @@
--- A run of the machine, moment by moment: the state, the heap, the number of records, and the
--- effects so far, the newest first.
+-- A run of the machine, moment by moment: the state, the heap, and the effects so far, the newest
+-- first.
 use Rattle.std.specs.Prelude.{ℕ, zero, suc, ◌≡◌, List, [], ◌∷◌}
 use Rattle.cache_model.specs.Cache.{Words}
 use Rattle.pm_machine.specs.declared.effect.Effect.{Effect}
 use Rattle.pm_machine.specs.declared.effect.End.{End}
 use Rattle.pm_machine.specs.declared.image.Image.{Image}
-use Rattle.pm_machine.specs.Effects.{heap_past, records_past}
+use Rattle.pm_machine.specs.Effects.{heap_past}
 use Rattle.pm_machine.specs.Machine.{State, StepOutcome, Goes, Ends, step, Finished, run}
 
 pub record RunMoment : Type 0 where
   pub state : State
   pub heap : Words
-  pub records : ℕ
   pub seen : List Effect
 
 -- a run goes on, or has ended
@@ -23,7 +22,6 @@ abbrev pub moment_after : RunMoment → Effect → State → RunMoment
 moment_after m e t = record {
   state = t;
   heap = heap_past m.heap e;
-  records = records_past m.records e;
   seen = e ∷ m.seen;
 }
 
@@ -32,7 +30,7 @@ staged m (Goes e t) = On (moment_after m e t)
 staged m (Ends end) = Over end m
 
 abbrev pub one : Image → RunMoment → RunStage
-one image m = staged m (step image m.records m.state m.heap)
+one image m = staged m (step image m.state m.heap)
 
 abbrev pub stage_then : RunStage → (RunMoment → RunStage) → RunStage
 stage_then (On m) f = f m
@@ -52,4 +50,4 @@ onto (e ∷ es) seen = onto es (e ∷ seen)
 abbrev pub RunsLaw : Type 0
 RunsLaw = (image : Image) (k : ℕ) (m b : RunMoment) (end : End) → go image k m ≡ Over end b →
     (es : List Effect) × (b.seen ≡ onto es m.seen)
-    × (run image k m.records m.state m.heap ≡ Finished end es)
+    × (run image k m.state m.heap ≡ Finished end es)

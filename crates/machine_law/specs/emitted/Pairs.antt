@@ -66,9 +66,9 @@ HasPairs u = ArePaired u.code
 abbrev pub EmitsPairs : Type 0
 EmitsPairs = (s : Sizes) (program : Ir) → AllByRecursion HasPairs (functions_of s program)
 
--- In each run of such code, from any state and heap, each LOG that appends a record is followed by
--- a STORE of its word, with no other LOG or STORE between.
+-- In each run of such code, from any state and heap, each LOG is followed by a STORE of its word,
+-- with no other LOG or STORE between.
 abbrev pub PairedLaw : Type 0
-PairedLaw = (image : Image) (k n : ℕ) (s : State) (heap : Words) (end : End) (es : List Effect) →
-    AllByRecursion HasPairs image.parts.functions → run image k n s heap ≡ Finished end es
+PairedLaw = (image : Image) (k : ℕ) (s : State) (heap : Words) (end : End) (es : List Effect) →
+    AllByRecursion HasPairs image.parts.functions → run image k s heap ≡ Finished end es
     → IsPairedRun es

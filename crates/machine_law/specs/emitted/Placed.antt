@@ -77,37 +77,33 @@ pub record Setting : Type 0 where
   pub below : List Frame
   pub size : ℕ
 
-abbrev pub moment : Setting → (at : ℕ) → List ℤ → World → (dirty : List ℕ) → (logged : ℕ)
-    → List Effect → RunMoment
-moment x at regs w dirty logged seen = record {
+abbrev pub moment : Setting → (at : ℕ) → List ℤ → World → (dirty : List ℕ) → List Effect
+    → RunMoment
+moment x at regs w dirty seen = record {
   state = record {
     top = record { function = x.function; place = at; to = x.to; registers = regs };
     below = x.below;
     ticks = w.ticks;
-    logged = logged;
     dirty = dirty;
     size = x.size;
   };
   heap = w.heap;
-  records = w.records;
   seen = seen;
 }
 
--- the machine is at a place of the piece, with the same heap, ticks, records and effects, and the
--- same registers
+-- the machine is at a place of the piece, with the same heap, ticks and effects, and the same
+-- registers
 pub record Same (x : Setting) (l : Loc) (m : RunMoment) : Type 0 where
   pub regs : List ℤ
   pub dirty : List ℕ
-  pub logged : ℕ
   pub seen : List Effect
   pub holds : FrameHolds x.base l.own l.temp regs
   pub heard_is : heard seen ≡ l.world.seen
-  pub is : m ≡ moment x (x.place + l.at) regs l.world dirty logged seen
+  pub is : m ≡ moment x (x.place + l.at) regs l.world dirty seen
 
 pub record IsShared (w : World) (m : RunMoment) : Type 0 where
   pub heap_is : m.heap ≡ w.heap
   pub ticks_is : m.state.ticks ≡ w.ticks
-  pub records_is : m.records ≡ w.records
   pub heard_is : heard m.seen ≡ w.seen
 
 -- if the piece alone goes on or traps, so does the machine

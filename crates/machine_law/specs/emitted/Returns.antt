@@ -15,8 +15,8 @@ last_effects [] = Quiet ∷ Fences ∷ []
 last_effects (l ∷ ls) = Flushes l ∷ last_effects ls
 
 abbrev pub ReturnLaw : Type 0
-ReturnLaw = (image : Image) (n : ℕ) (s : State) (heap : Words) (a : ℕ) →
+ReturnLaw = (image : Image) (s : State) (heap : Words) (a : ℕ) →
     fetch image s ≡ Some Flush → fetch image (passed s) ≡ Some Fence
     → fetch image (passed (passed s)) ≡ Some (Halt a) →
-    run image (length s.dirty + 3) n s heap ≡ Finished (Halted (read_register s a))
+    run image (length s.dirty + 3) s heap ≡ Finished (Halted (read_register s a))
     (last_effects s.dirty)

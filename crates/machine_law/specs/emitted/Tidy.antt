@@ -100,6 +100,6 @@ pub record OpenFramesTidy (image : Image) (s : State) : Type 0 where
 -- A run from an open state that halts flushes each dirty line once, in their order, and fences,
 -- only at its end; a run that traps has no flush and no fence.
 abbrev pub TidyLaw : Type 0
-TidyLaw = (image : Image) (k n : ℕ) (s : State) (heap : Words) (end : End) (es : List Effect) →
+TidyLaw = (image : Image) (k : ℕ) (s : State) (heap : Words) (end : End) (es : List Effect) →
     ((f : ℕ) → IsTidyCode (slice_get image.parts.functions f)) → OpenFramesTidy image s
-    → run image k n s heap ≡ Finished end es → IsTidyEnd s.dirty end es
+    → run image k s heap ≡ Finished end es → IsTidyEnd s.dirty end es

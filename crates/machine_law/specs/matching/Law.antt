@@ -1,8 +1,7 @@
 -- Emitted code keeps the meaning of intermediate code, from every heap that stands for the pool.
-use Rattle.std.specs.Prelude.{◌≡◌, ◌⊎◌, ℕ, ◌*◌, ◌-◌, ℤ, List, Some, slice_get}
+use Rattle.std.specs.Prelude.{◌≡◌, ℕ, ◌*◌, ◌-◌, ℤ, List, Some, slice_get}
 use Rattle.cache_model.specs.Cache.{Words}
 use Rattle.pool_map.specs.declared.trap.TrapKind.{TrapKind}
-use Rattle.pool_map.specs.declared.trap.TrapKind.TheVariants.{LogFull}
 use Rattle.pool_map.specs.PoolFits.{PoolFits}
 use Rattle.pool_map.specs.PoolMap.{PoolMap}
 use Rattle.ir.specs.declared.function.Ir.{Ir}
@@ -13,9 +12,9 @@ use Rattle.pm_machine.specs.declared.effect.Effect.{Effect}
 use Rattle.pm_machine.specs.declared.effect.End.TheVariants.{Halted, Trapped}
 use Rattle.pm_machine.specs.declared.image.Image.{Image}
 use Rattle.pm_machine.specs.declared.op.TxEntry.{TxEntry}
-use Rattle.pm_machine.specs.Effects.{heap_end, records_end}
+use Rattle.pm_machine.specs.Effects.{heap_end}
 use Rattle.pm_machine.specs.Machine.{Run, Finished, mrun}
-use Rattle.machine_law.specs.pieces.Shows.{ShowsDeeds, IsCutAtStore}
+use Rattle.machine_law.specs.pieces.Shows.{ShowsDeeds}
 use Rattle.machine_law.specs.pieces.Stands.{Stands}
 use Rattle.machine_law.specs.pieces.Words.{HoldWords, HasWords}
 use Rattle.machine_law.specs.matching.Accesses.{accesses}
@@ -39,29 +38,18 @@ pub record RunTraps (image : Image) (ir : Ir) (ds : List Deed) (k : TrapKind) (r
   pub is : run ≡ Finished (Trapped k) effects
   pub shows : ShowsDeeds image.parts.sizes (is_logged_in_code ir) ds (accesses effects)
 
--- the run ends with a full log: its effects show the code's deeds up to a store that is logged, and
--- all records are written
-pub record RunFull (image : Image) (ir : Ir) (ds : List Deed) (run : Run) : Type 0 where
-  pub effects : List Effect
-  pub is : run ≡ Finished (Trapped LogFull) effects
-  pub records : records_end 0 effects ≡ image.parts.sizes.records
-  pub cut : IsCutAtStore image.parts.sizes (is_logged_in_code ir) ds (accesses effects)
-
 -- what the machine's run from a heap does if that of the code, with these deeds, ends like this;
 -- well formed code never gets stuck
 abbrev pub RunMatches : Image → Ir → Words → List Deed → code.CodeEnd → Run → Type 0
 RunMatches image ir heap ds (code.Ended w v t) run = RunHalts image ir heap ds w v run
-    ⊎ RunFull image ir ds run
-RunMatches image ir heap ds (code.Trapped k) run =
-    RunTraps image ir ds k run ⊎ RunFull image ir ds run
+RunMatches image ir heap ds (code.Trapped k) run = RunTraps image ir ds k run
 RunMatches image ir heap ds code.Unfinished run = Unit {0}
 RunMatches image ir heap ds code.Stuck run = ⊥
 
 -- If k steps of the code of a transaction lead to an end, at most 80 steps of the machine for each
 -- of them lead to an end too, from every heap that stands for the pool. It is the same end, with a
--- heap that stands for the code's pool, and with loads, stores and logs that show the code's. Or
--- the machine ends with a full log, and these show the code's up to the store that found it full.
--- The arguments and the pool's words are words.
+-- heap that stands for the code's pool, and with loads, stores and logs that show the code's. The
+-- arguments and the pool's words are words.
 abbrev pub KeepLaw : Type 0
 KeepLaw = (image : Image) (ir : Ir) (k tx : ℕ) (entry : TxEntry) (args : List ℤ) (heap : Words)
     (w : PoolMap) →

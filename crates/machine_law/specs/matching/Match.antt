@@ -1,13 +1,12 @@
 -- The machine between two instructions of intermediate code. It has the same functions open, each
 -- at the place where its next instruction's code begins and with the same words in its registers;
 -- as many ticks; and a heap that stands for the pool. Only the function that was opened first is a
--- transaction. Each frame has room for any function with its eight temporary registers, the log has
--- no more records than fit, and no line is dirty twice.
-use Rattle.std.specs.Prelude.{◌≡◌, ◌⊎◌, ℕ, ◌+◌, ◌*◌, ◌<◌, ◌≤◌, ℤ, pos, Bool, true, false, List, []}
+-- transaction. Each frame has room for any function with its eight temporary registers, and no line
+-- is dirty twice.
+use Rattle.std.specs.Prelude.{◌≡◌, ℕ, ◌+◌, ◌*◌, ◌<◌, ◌≤◌, ℤ, pos, Bool, true, false, List, []}
 use Rattle.std.specs.Prelude.{◌∷◌, ◌++◌, length, Some, get_or, slice_get}
 use Rattle.pool_layout.specs.declared.limits.Sizes.{Sizes}
 use Rattle.pool_map.specs.declared.trap.TrapKind.{TrapKind}
-use Rattle.pool_map.specs.declared.trap.TrapKind.TheVariants.{LogFull}
 use Rattle.pool_map.specs.PoolFits.{PoolFits}
 use Rattle.pool_map.specs.PoolMap.{PoolMap}
 use Rattle.ir.specs.declared.function.IrFunction.{IrFunction}
@@ -23,7 +22,7 @@ use Rattle.ir.specs.Moving.{place_in}
 use Rattle.machine_law.specs.emitted.Dirty.{IsCleanState}
 use Rattle.machine_law.specs.emitted.Moments.{RunMoment, RunStage, On, Over, go, onto}
 use Rattle.machine_law.specs.emitted.Standing.{table_of}
-use Rattle.machine_law.specs.pieces.Shows.{ShowsDeeds, IsCutAtStore}
+use Rattle.machine_law.specs.pieces.Shows.{ShowsDeeds}
 use Rattle.machine_law.specs.pieces.Stands.{Stands}
 use Rattle.machine_law.specs.pieces.Words.{IsWordState}
 use Rattle.machine_law.specs.matching.Accesses.{accesses}
@@ -60,7 +59,6 @@ pub record AreMatched (image : Image) (ir : Ir) (f p : ℕ) (regs : List ℤ)
   pub ticks : m.state.ticks ≡ t
   pub stands : Stands image.parts.sizes m.heap w
   pub fits : PoolFits ir.shapes w
-  pub records : m.records ≤ image.parts.sizes.records
   pub clean : IsCleanState image m.state
 
 abbrev pub Match : Image → Ir → CodeState → RunMoment → Type 0
@@ -71,17 +69,6 @@ pub record HasShown (image : Image) (ir : Ir) (ds : List Deed) (m b : RunMoment)
   pub effects : List Effect
   pub seen : accesses b.seen ≡ onto effects (accesses m.seen)
   pub shows : ShowsDeeds image.parts.sizes (is_logged_in_code ir) ds effects
-
--- the machine ends with a full log, right before a store that is logged, whatever the code does
--- after it
-pub record StopsFull (image : Image) (ir : Ir) (ds : List Deed) (m : RunMoment) (g : RunStage) :
-    Type 0 where
-  pub last : RunMoment
-  pub is : g ≡ Over (Trapped LogFull) last
-  pub records : last.records ≡ image.parts.sizes.records
-  pub effects : List Effect
-  pub seen : accesses last.seen ≡ onto effects (accesses m.seen)
-  pub cut : IsCutAtStore image.parts.sizes (is_logged_in_code ir) ds effects
 
 pub record GoesToo (image : Image) (ir : Ir) (ds : List Deed) (c : CodeState) (m : RunMoment)
     (g : RunStage) : Type 0 where
@@ -104,16 +91,15 @@ pub record TrapsToo (image : Image) (ir : Ir) (ds : List Deed) (k : TrapKind) (m
   pub is : g ≡ Over (Trapped k) last
   pub shown : HasShown image ir ds m last
 
--- if the code's run ends like this, so does the machine's, or it ends with a full log
+-- if the code's run ends like this, so does the machine's
 abbrev pub EndsToo : Image → Ir → List Deed → code.CodeEnd → RunMoment → RunStage → Type 0
-EndsToo image ir ds (code.Ended w v t) m g =
-    HaltsToo image ir ds w v m g ⊎ StopsFull image ir ds m g
-EndsToo image ir ds (code.Trapped k) m g = TrapsToo image ir ds k m g ⊎ StopsFull image ir ds m g
+EndsToo image ir ds (code.Ended w v t) m g = HaltsToo image ir ds w v m g
+EndsToo image ir ds (code.Trapped k) m g = TrapsToo image ir ds k m g
 EndsToo image ir ds code.Unfinished m g = Unit {0}
 EndsToo image ir ds code.Stuck m g = Unit {0}
 
 abbrev pub MovesToo : Image → Ir → List Deed → Move → RunMoment → RunStage → Type 0
-MovesToo image ir ds (code.Goes c) m g = GoesToo image ir ds c m g ⊎ StopsFull image ir ds m g
+MovesToo image ir ds (code.Goes c) m g = GoesToo image ir ds c m g
 MovesToo image ir ds (code.Ends e) m g = EndsToo image ir ds e m g
 
 -- the steps of an instruction itself, and those that flush each dirty line if it ends the run

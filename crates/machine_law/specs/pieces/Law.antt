@@ -1,9 +1,8 @@
 -- The piece of each instruction that stays in its function, run alone on a heap that stands for a
 -- pool, does what the instruction does on the pool. It reaches its end with the registers, the
 -- ticks and a heap that stands for the instruction's pool, or traps as the instruction does; its
--- effects show what the instruction does. Only if a logged store finds the log full, it ends
--- instead with the trap of a full log, right before that store. The registers hold words: a divisor
--- that is no word could be 0 for the machine but not for the code.
+-- effects show what the instruction does. The registers hold words: a divisor that is no word could
+-- be 0 for the machine but not for the code.
 use Rattle.std.specs.Prelude.{ℕ, ◌≤◌, ◌≡◌, Bool, true, false, List, length, Some, ℤ}
 use Rattle.pool_map.specs.declared.trap.TrapKind.{TrapKind}
 use Rattle.pool_map.specs.Trap.{trap_number}
@@ -18,7 +17,7 @@ use Rattle.ir.specs.WellFormed.{IsInstruction}
 use Rattle.code_meaning.specs.Code.{Frame, Here, Move, Goes, Ends, Trapped, register_at, act}
 use Rattle.code_meaning.specs.Deeds.{Deed, site, deeds_at}
 use Rattle.pm_machine.specs.declared.effect.Effect.{Effect}
-use Rattle.pm_machine.specs.Effects.{heap_end, records_end}
+use Rattle.pm_machine.specs.Effects.{heap_end}
 use Rattle.pm_alloc.specs.Runs as alone
 use Rattle.pm_alloc.specs.LocalRun.{World, Loc, local_step}
 use Rattle.codegen.specs.Emit.{local_code}
@@ -26,7 +25,7 @@ use Rattle.machine_law.specs.emitted.Moments.{onto}
 use Rattle.machine_law.specs.emitted.Standing.{Stays}
 use Rattle.machine_law.specs.pieces.Stands.{Stands}
 use Rattle.machine_law.specs.pieces.Fits.{IsFit}
-use Rattle.machine_law.specs.pieces.Shows.{ShowsDeeds, IsCutAtStore}
+use Rattle.machine_law.specs.pieces.Shows.{ShowsDeeds}
 use Rattle.machine_law.specs.pieces.Words.{HoldWords}
 
 -- `logged` agrees with the piece about the instruction's sites; b: a log comes right before it
@@ -52,7 +51,6 @@ onward v es t = record {
   heap = heap_end v.heap es;
   seen = onto es v.seen;
   ticks = t;
-  records = records_end v.records es;
 }
 
 -- after a piece of length n
@@ -63,7 +61,6 @@ pub record PieceEnds (s : Sizes) (n : ℕ) (v : World) (es : List Effect) (regs 
   pub own : (r : ℕ) → l.own r ≡ register_at regs r
   pub world : l.world ≡ onward v es t
   pub stands : Stands s l.world.heap w
-  pub records : l.world.records ≤ s.records
 
 -- from world v the code makes this move, with these deeds, and the piece of length n ends
 -- accordingly
@@ -76,15 +73,12 @@ pub data Does (s : Sizes) (logged : Site → Bool) (n : ℕ) (v : World) (ds : L
   traps : (k : TrapKind) (es : List Effect) →
       ShowsDeeds s logged ds es → Does s logged n v ds (Ends (Trapped k))
       (alone.Traps (trap_number k) (onward v es v.ticks))
-  full : {m : Move} (es : List Effect) →
-      IsCutAtStore s logged ds es → records_end v.records es ≡ s.records
-      → Does s logged n v ds m (alone.Traps 7 (onward v es v.ticks))
 
 abbrev pub PieceLaw : Type 0
 PieceLaw = (s : Sizes) (ir : Ir) (r n f p : ℕ) (i : Instruction) (b : Bool) (logged : Site → Bool)
     (regs : List ℤ) (below : List Frame) (w : PoolMap) (v : World) (temp : List ℤ) →
     IsFit s ir.shapes → PoolFits ir.shapes w → Stands s v.heap w → HoldWords regs
-    → IsInstruction ir r n i → Stays i → AgreesOnSites logged f p b i → v.records ≤ s.records
+    → IsInstruction ir r n i → Stays i → AgreesOnSites logged f p b i
     → length temp ≡ 8 →
     (k : ℕ) × (k ≤ 40)
     × Does s logged (length (local_code s ir.shapes b i)) v (deeds_at ir.shapes f p regs w (Some i))

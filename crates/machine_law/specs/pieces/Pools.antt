@@ -1,22 +1,20 @@
 -- A heap with valid headers stands for the pool that it holds, and each instruction keeps that the
 -- pool fits.
-use Rattle.std.specs.Prelude.{ℕ, zero, suc, ◌+◌, ◌≡◌, List, [], ◌∷◌, length, Option, None}
-use Rattle.std.specs.Prelude.{Some, option_map, ℤ, pos, negsuc}
+use Rattle.std.specs.Prelude.{ℕ, ◌≡◌, List, length}
+use Rattle.std.specs.Prelude.{Some, ℤ}
 use Rattle.cache_model.specs.Cache.{Words}
 use Rattle.pool_layout.specs.declared.limits.Sizes.{Sizes}
 use Rattle.pool_layout.specs.Headers.{HasHeaders}
 use Rattle.pm_machine.specs.HeapPool.{pool_in}
-use Rattle.pool_map.specs.declared.object.Object.{Object}
-use Rattle.pool_map.specs.declared.shapes.StructShape.{StructShape}
 use Rattle.pool_map.specs.declared.shapes.Shapes.{Shapes}
-use Rattle.pool_map.specs.PoolFits.{PoolFits, words_of, struct_at}
+use Rattle.pool_map.specs.PoolFits.{PoolFits}
 use Rattle.pool_map.specs.PoolMap.{PoolMap}
 use Rattle.ir.specs.declared.function.Ir.{Ir}
 use Rattle.ir.specs.declared.instruction.Instruction.{Instruction}
 use Rattle.ir.specs.WellFormed.{IsInstruction}
 use Rattle.code_meaning.specs.Code.{Frame, Here, CodeEnd, Ended, Trapped, Unfinished, Stuck, Move}
 use Rattle.code_meaning.specs.Code.{Goes, Ends, act}
-use Rattle.machine_law.specs.pieces.Stands.{Stands, header_word}
+use Rattle.machine_law.specs.pieces.Stands.{Stands}
 use Rattle.machine_law.specs.pieces.Fits.{IsFit}
 
 -- A heap with valid headers stands for its pool, which fits.

@@ -36,29 +36,8 @@ pub data ShowsDeeds (s : Sizes) (logged : Site → Bool) : List Deed → List Ef
       → ShowsDeeds s logged (Heads site q v ∷ ds)
       (Logs (header_word s q) ∷ Stores (header_word s q) v ∷ es)
 
--- a store that is logged
-abbrev pub TakesLog : (Site → Bool) → Deed → Type 0
-TakesLog logged (Reads x) = ⊥
-TakesLog logged (Writes site x v) = logged site ≡ true
-TakesLog logged (Heads site q v) = Unit {0}
-
--- the effects show the code's deeds up to a store that is logged
-pub record IsCutAtStore (s : Sizes) (logged : Site → Bool) (ds : List Deed) (es : List Effect) :
-    Type 0 where
-  pub before : List Deed
-  pub due : Deed
-  pub later : List Deed
-  pub is : ds ≡ before ++ due ∷ later
-  pub takes_log : TakesLog logged due
-  pub shows : ShowsDeeds s logged before es
-
 -- deeds that effects show one after another are shown together
 abbrev pub ShowsLaw : Type 0
 ShowsLaw = (s : Sizes) (logged : Site → Bool) (ds cs : List Deed) (es fs : List Effect) →
     ShowsDeeds s logged ds es → ShowsDeeds s logged cs fs
     → ShowsDeeds s logged (ds ++ cs) (es ++ fs)
-
-abbrev pub CutsLaw : Type 0
-CutsLaw = (s : Sizes) (logged : Site → Bool) (ds cs : List Deed) (es fs : List Effect) →
-    ShowsDeeds s logged ds es → IsCutAtStore s logged cs fs
-    → IsCutAtStore s logged (ds ++ cs) (es ++ fs)

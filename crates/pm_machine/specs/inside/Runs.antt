@@ -1,5 +1,9 @@
 -- What only bodies and proofs need beside `Runs`.
-use Rattle.std.specs.Prelude.{ℕ, ◌+◌, ◌*◌, ◌<◌, ◌≤◌, ◌≡◌, List, ℤ}
+use Rattle.std.specs.Prelude.{ℕ, ◌+◌, ◌*◌, ◌<◌, ◌≤◌, ◌≡◌, List, [], Option, None, Some, ℤ}
+use Rattle.cache_model.specs.Cache.{Words, Cache}
+use Rattle.cache_model.specs.Event.{CacheEvent}
+use Rattle.pool_layout.specs.declared.limits.Sizes.{Sizes}
+use Rattle.clobber_log.specs.Record.{record_events}
 use Rattle.pmem.specs.Device.{Device}
 use Rattle.pmem.specs.declared.answer.Refusal.{Refusal}
 use Rattle.pmem.specs.Played.{PlaysAll, PlaysPart}
@@ -7,10 +11,13 @@ use Rattle.pm_machine.specs.declared.effect.Effect.{Effect}
 use Rattle.pm_machine.specs.declared.effect.Effect.TheVariants.{Loads, Scans, Stores, Logs, Flushes}
 use Rattle.pm_machine.specs.declared.effect.Effect.TheVariants.{Fences, Quiet}
 use Rattle.pm_machine.specs.declared.image.Image.{Image}
+use Rattle.pm_machine.specs.declared.machine.Went.{Went}
+use Rattle.pm_machine.specs.declared.machine.Went.TheVariants as went
 use Rattle.pm_machine.specs.declared.silent.Reached.{Reached}
-use Rattle.pm_machine.specs.Effects.{records_past}
-use Rattle.pm_machine.specs.Machine.{State, StepOutcome, Goes, Ends}
-use Rattle.pm_machine.specs.Runs.{AreLines, Due, due}
+use Rattle.pm_machine.specs.Effects.{events_of}
+use Rattle.pm_machine.specs.Logging.{Logging, bare}
+use Rattle.pm_machine.specs.Machine.{State, StepOutcome, Goes, Ends, step}
+use Rattle.pm_machine.specs.Runs.{heap_in, effect_in, AreLines, Due, due}
 use Rattle.cache_model.specs.declared.slot.TheConstants.{SLOT_WORDS}
 
 abbrev pub IsStore : Effect → Type 0
@@ -22,16 +29,30 @@ IsStore (Flushes l) = ⊥
 IsStore Fences = ⊥
 IsStore Quiet = ⊥
 
--- the words, headers and lines of an effect exist, and a LOG has room: H heap words, C records, n
--- of them written
-abbrev pub IsInRange : (C H n : ℕ) → Effect → Type 0
-IsInRange C H n (Loads w) = w < H
-IsInRange C H n (Scans w m) = w + SLOT_WORDS * m ≤ H
-IsInRange C H n (Stores w x) = w < H
-IsInRange C H n (Logs w) = (w < H) × (n < C)
-IsInRange C H n (Flushes l) = 8 * l < H
-IsInRange C H n Fences = Unit {0}
-IsInRange C H n Quiet = Unit {0}
+-- the words, headers and lines of an effect exist: H heap words
+abbrev pub IsInRange : (H : ℕ) → Effect → Type 0
+IsInRange H (Loads w) = w < H
+IsInRange H (Scans w m) = w + SLOT_WORDS * m ≤ H
+IsInRange H (Stores w x) = w < H
+IsInRange H (Logs w) = w < H
+IsInRange H (Flushes l) = 8 * l < H
+IsInRange H Fences = Unit {0}
+IsInRange H Quiet = Unit {0}
+
+-- a record has room among C, n of which are written
+abbrev pub HasRoomFor : (C n : ℕ) → Effect → Type 0
+HasRoomFor C n (Loads w) = Unit {0}
+HasRoomFor C n (Scans w m) = Unit {0}
+HasRoomFor C n (Stores w x) = Unit {0}
+HasRoomFor C n (Logs w) = n < C
+HasRoomFor C n (Flushes l) = Unit {0}
+HasRoomFor C n Fences = Unit {0}
+HasRoomFor C n Quiet = Unit {0}
+
+-- the events of a record, if one is taken
+abbrev pub taken_events : Sizes → (a : ℕ) → Logging → Words → Option ℕ → List CacheEvent
+taken_events z a g heap None = []
+taken_events z a g heap (Some w) = record_events z g.count w (heap w) (a + 1)
 
 -- the outcome goes on to this state, with an effect that has no event
 abbrev pub GoesSilently : State → StepOutcome → Type 0
@@ -55,17 +76,27 @@ worked s registers ticks place = record {
   };
   below = s.below;
   ticks = ticks;
-  logged = s.logged;
   dirty = s.dirty;
   size = s.size;
 }
 
--- the invariant of a step: its effect is in range, the dirty lines are lines of the heap, and the
--- LOGs are counted from k on
-abbrev pub StepKeeps : (C H n k : ℕ) → StepOutcome → Type 0
-StepKeeps C H n k (Goes e t) = IsInRange C H n e × AreLines H t.dirty
-    × (t.logged ≡ records_past k e)
-StepKeeps C H n k (Ends e) = Unit {0}
+-- the processor went on as this step goes on, or ended as it ends
+abbrev pub IsStep : Went → State → StepOutcome → Type 0
+IsStep went.On s (Goes e t) = s ≡ t
+IsStep went.On s (Ends end) = ⊥
+IsStep (went.Ended q) s (Goes e t) = ⊥
+IsStep (went.Ended q) s (Ends end) = q ≡ end
+
+-- the events of a step without its record, with n records
+abbrev pub bare_events : Image → (a n : ℕ) → State → Cache → List CacheEvent
+bare_events image a n s c =
+    events_of image.parts.sizes a n (heap_in image.parts.sizes c)
+    (bare (effect_in (step image s (heap_in image.parts.sizes c))))
+
+-- what a step keeps: its effect is in range, and the dirty lines are lines of the heap
+abbrev pub StepKeeps : (H : ℕ) → StepOutcome → Type 0
+StepKeeps H (Goes e t) = IsInRange H e × AreLines H t.dirty
+StepKeeps H (Ends e) = Unit {0}
 
 -- playing what remains, from device d and step k, completes what was due at the start
 pub record DueLeads (d : Device) (k : ℕ) (x : Due) (d0 : Device) (k0 : ℕ) (x0 : Due) : Type 0 where
@@ -79,8 +110,8 @@ pub record DueLeads (d : Device) (k : ℕ) (x : Due) (d0 : Device) (k0 : ℕ) (x
 -- on one device and from any attempt and records, what is left of a run in state s after k steps
 -- completes what was left of it in state s0 after k0 steps
 abbrev pub RestLeads : Image → Device → (left k : ℕ) → State → (left0 k0 : ℕ) → State → Type 0
-RestLeads image d left k s left0 k0 s0 = (a n : ℕ) → DueLeads d k (due image a left n s d.cache)
-    d k0 (due image a left0 n s0 d.cache)
+RestLeads image d left k s left0 k0 s0 = (a : ℕ) (g : Logging)
+    → DueLeads d k (due image a left g s d.cache) d k0 (due image a left0 g s0 d.cache)
 
 -- the same of a stretch without events, from one place to another with these registers, in any
 -- state whose open function this is

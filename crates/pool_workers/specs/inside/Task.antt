@@ -11,7 +11,7 @@ use Rattle.pool_workers.specs.declared.task.Stepped.{Stepped}
 use Rattle.pool_workers.specs.declared.task.Stepped.TheVariants.{On, Over, Refused}
 use Rattle.pmem.specs.declared.answer.Refusal.{Refusal}
 use Rattle.pmem.specs.declared.answer.Refusal.TheVariants as refusal
-use Rattle.pm_machine.specs.Machine.{State}
+use Rattle.pm_machine.specs.declared.machine.Machine.{Machine}
 
 -- the answer of the last turn, from the answer of its events
 abbrev pub last_answer : LogAnswer → TurnAnswer → TurnAnswer
@@ -41,12 +41,12 @@ is_last answer.NoMemory = false
 abbrev pub left_task : TurnAnswer → Task → Option Task
 left_task a t = if is_last a then None else Some t
 
--- The transaction after an instruction, from the state and the numbers that it left in the place of
--- a run with this attempt.
-abbrev pub stepped_left : Stepped → State → (a n k : ℕ) → Task
-stepped_left On s a n k = Running s a n k
-stepped_left (Over end l) s a n k = Ending end l
-stepped_left (Refused why) s a n k = Cut Sealed
+-- the transaction after an instruction, from the machine that it left in the place of a run with
+-- this attempt
+abbrev pub stepped_left : Stepped → Machine → (a k : ℕ) → Task
+stepped_left On m a k = Running m a k
+stepped_left (Over end l) m a k = Ending end l
+stepped_left (Refused why) m a k = Cut Sealed
 
 abbrev pub refused_answer : Refusal → TurnAnswer
 refused_answer refusal.Off = answer.Off
@@ -66,7 +66,7 @@ settled (Refused why) t = Cut Sealed
 
 -- its call isn't sealed
 abbrev pub IsBegun : Task → Type 0
-IsBegun (Begun tx args s) = Unit {0}
-IsBegun (Running s a n k) = ⊥
+IsBegun (Begun tx args m) = Unit {0}
+IsBegun (Running m a k) = ⊥
 IsBegun (Ending end l) = ⊥
 IsBegun (Cut p) = ⊥

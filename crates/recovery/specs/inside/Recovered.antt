@@ -5,13 +5,14 @@ use Rattle.pmem.specs.declared.answer.LogAnswer.TheVariants as log
 use Rattle.tx_run.specs.declared.answer.Settled.{Settled}
 use Rattle.tx_run.specs.declared.answer.Settled.TheVariants as settled
 use Rattle.recovery.specs.declared.answer.RecoverAnswer.{RecoverAnswer}
-use Rattle.recovery.specs.declared.answer.RecoverAnswer.TheVariants.{Clean, Redone, Trap, Off}
-use Rattle.recovery.specs.declared.answer.RecoverAnswer.TheVariants.{Failed, NoMemory}
+use Rattle.recovery.specs.declared.answer.RecoverAnswer.TheVariants.{Clean, Redone, Trap, Aborted}
+use Rattle.recovery.specs.declared.answer.RecoverAnswer.TheVariants.{Off, Failed, NoMemory}
 
 -- If the pool is sealed, a power cut is in phase sealed, else in phase unsealed.
 abbrev pub redo_answer : Settled → RecoverAnswer
 redo_answer (settled.Done v l) = Redone v l
 redo_answer (settled.Trap k) = Trap k
+redo_answer (settled.Aborted k) = Aborted k
 redo_answer settled.Off = Off phase.Sealed
 redo_answer settled.Failed = Failed
 redo_answer settled.NoMemory = NoMemory

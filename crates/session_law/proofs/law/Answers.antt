@@ -15,7 +15,7 @@ use Rattle.session_law.proofs.Logging.{one_outcome, one_led, full_law}
 use Rattle.session_law.proofs.FullLogs.{full_log}
 use Rattle.session_law.proofs.RolledBack.{call_rolled_back, power_rolled_back}
 use Rattle.session_law.proofs.KeepingChains.{chain_rolled_back}
-use Rattle.session_law.proofs.MarkedExact.{marked_exact, marked_run_held}
+use Rattle.session_law.proofs.Exact.{run_exact, run_held}
 use Rattle.session_law.proofs.Ending.{uninterrupted, each_recovery_ends}
 use Rattle.session_law.proofs.law.Goals as goal
 
@@ -79,11 +79,11 @@ returns-clause-led c = one_led
 pub returns-clause-rollback : goal.returns-clause-rollback
 returns-clause-rollback c = (call_rolled_back, power_rolled_back, chain_rolled_back)
 
-pub returns-clause-marked_exact : goal.returns-clause-marked_exact
-returns-clause-marked_exact c = marked_exact
+pub returns-clause-exact : goal.returns-clause-exact
+returns-clause-exact c = run_exact
 
 pub returns-clause-held_run : goal.returns-clause-held_run
-returns-clause-held_run c = marked_run_held
+returns-clause-held_run c = run_held
 
 pub returns-clause-ends : goal.returns-clause-ends
 returns-clause-ends c = (uninterrupted, each_recovery_ends)

@@ -2,6 +2,7 @@
 use Rattle.std.specs.Prelude.{◌≡◌, ◌<◌, ◌≤◌, ℕ, ℤ, pos, List, [], ◌∷◌, ◌++◌, length, Some}
 use Rattle.std.specs.Prelude.{FitsSigned, slice_get, slice_index_or}
 use Rattle.std.specs.Int.{w64}
+use Rattle.std.specs.List.{flat_map}
 use Rattle.cache_model.specs.Cache.{Words}
 use Rattle.pool_layout.specs.Sizes.{heap_words}
 use Rattle.pool_map.specs.Trap.{trap_number}
@@ -11,10 +12,9 @@ use Rattle.pm_machine.specs.declared.op.Function.{Function}
 use Rattle.pm_machine.specs.declared.effect.End.TheVariants.{Halted, Trapped}
 use Rattle.pm_machine.specs.declared.frame.Frame.{Frame}
 use Rattle.pm_machine.specs.declared.image.Image.{Image}
-use Rattle.pm_machine.specs.Effects.{heap_past}
-use Rattle.pm_machine.specs.Machine as machine
-use Rattle.pm_machine.specs.Machine.{State, StepOutcome, fetch_in}
-use Rattle.abort_law.specs.Machine.{logged_past}
+use Rattle.pm_machine.specs.Effects.{heap_end}
+use Rattle.pm_machine.specs.Machine.{State, fetch_in}
+use Rattle.pm_machine.specs.Logging.{Turn, Plays, Stops}
 use Rattle.c_fragment.specs.State.{Waiting, CState}
 use Rattle.c_fragment.specs.Meaning.{CStep, Goes, Returns, Traps}
 use Rattle.step_law.specs.Law.{played_by}
@@ -58,22 +58,20 @@ WaitsAlike us f to [] gs = gs ≡ []
 WaitsAlike us f to (w ∷ ws) gs =
     (x : IsWaitingFor us f to w gs) × WaitsAlike us x.last.function x.last.to ws x.below
 
-pub record MirrorsState (image : Image) (memory : Words) (ls : List ℕ) (s : State) (c : CState) :
-    Type 0 where
+pub record MirrorsState (image : Image) (memory : Words) (s : State) (c : CState) : Type 0 where
   pub top : IsOpenAs image.parts.functions c.function c.place c.registers s.top
   pub waiting : WaitsAlike image.parts.functions s.top.function s.top.to c.waiting s.below
   pub few : length s.below < 256
   pub size : s.size ≡ image.largest
   pub ticks : c.ticks ≡ s.ticks
   pub dirty : c.dirty ≡ s.dirty
-  pub logged : c.logged ≡ ls
   pub heap : (w : ℕ) → c.heap w ≡ unsigned (memory w)
   pub words : (w : ℕ) → w < heap_words image.parts.sizes → FitsSigned w64 (memory w)
 
--- the two steps go on alike, or both end alike
-abbrev pub StepsAgree : Image → Words → List ℕ → StepOutcome → CStep → Type 0
-StepsAgree image heap ls (machine.Goes e t) (Goes ps d) =
-    (ps ≡ played_by e) × MirrorsState image (heap_past heap e) (logged_past ls e) t d
-StepsAgree image heap ls (machine.Ends (Halted v)) (Returns x) = x ≡ unsigned v
-StepsAgree image heap ls (machine.Ends (Trapped kind)) (Traps k) = k ≡ trap_number kind
-StepsAgree image heap ls _ _ = ⊥
+-- the turn and the step go on alike, or both end alike
+abbrev pub TurnsAgree : Image → Words → Turn → CStep → Type 0
+TurnsAgree image heap (Plays es g t) (Goes ps d) =
+    (ps ≡ flat_map played_by es) × (d.logging ≡ g) × MirrorsState image (heap_end heap es) t d
+TurnsAgree image heap (Stops (Halted v)) (Returns x) = x ≡ unsigned v
+TurnsAgree image heap (Stops (Trapped kind)) (Traps k) = k ≡ trap_number kind
+TurnsAgree image heap _ _ = ⊥

@@ -36,8 +36,8 @@ begin_runs_out begins.NoMemory = true
 
 -- the turns that a transaction has at most
 abbrev pub turns_of : (most : ℕ) → Task → ℕ
-turns_of most (Begun tx args s) = most + 2
-turns_of most (Running s a n k) = k + 1
+turns_of most (Begun tx args m) = most + 2
+turns_of most (Running m a k) = k + 1
 turns_of most (Ending end l) = 1
 turns_of most (Cut p) = 0
 

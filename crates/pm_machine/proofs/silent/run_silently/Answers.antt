@@ -19,15 +19,15 @@ loop-left-preserved g c =
     → c.code-code.result.now ≡ code_of image.parts.functions s.top.function =
     λ s is. rw is c.code-code.ensures in
     record {
-      leads = λ s is a n.
-          leads_silent image a i.left n (worked s i.registers i.ticks i.place) d i.steps d
+      leads = λ s is a log.
+          leads_silent image a i.left log (worked s i.registers i.ticks i.place) d i.steps d
           c.args.steps.now
-          (due image a c.args.from.left n
+          (due image a c.args.from.left log
           (worked s c.args.registers.now c.args.from.ticks c.args.from.place) d.cache)
           c.code-code.result.now
           (worked s c.step.new.registers c.step.new.ticks c.in-Some.next) c.tick.new.self
           (code_at s is)
-          (c.in-Some.ensures.done n s) tick some (i.invariant.leads s is a n);
+          (c.in-Some.ensures.done s) tick some (i.invariant.leads s is a log);
       spent = omega arith;
       fewer = omega arith;
       size = search rules;

@@ -1,17 +1,28 @@
-use Rattle.std.proofs.Common.{ℕ, ◌-◌, subst, sym, ◌∙◌, ap}
-use Rattle.pm_machine.specs.Runs.{heap_in}
-use Rattle.pool_workers.specs.Task.{IsTask, going}
-use Rattle.pool_workers.proofs.Turns.{step_task}
+use Rattle.std.proofs.Common.{◌-◌, subst, sym}
+use Rattle.pool_workers.specs.Task.{IsTask}
+use Rattle.pool_workers.proofs.Turns.{on_task, on_turned, over_turned}
 use Rattle.pool_workers.proofs.turning.step_turn.Goals as goal
 
-pub returns-in-Ok-Did-clause-task : goal.returns-in-Ok-Did-clause-task
-returns-in-Ok-Did-clause-task g c =
-    let image = c.args.image.now in
-    let t = c.step_on.new.self in
-    subst (IsTask image)
-    (sym (c.goes_on.ensures.left c.args.attempt c.records_past.result
-    ∙ ap (λ (n : ℕ). going t c.args.attempt n (c.args.left.now - 1)) c.records_past.ensures))
-    (step_task image
-    (heap_in image.parts.sizes (g.P.PmemWork.device c.args.dev.now).cache) c.args.machine.now t
-    c.args.attempt c.args.records.now c.args.left.now c.in-Ok-Did.field-0 c.in-Ok-Did.effect
-    c.requires.task c.in-Ok-Did.field-0-is c.in-Ok-Did.ensures.meaning (c.args.left.now - 1))
+pub returns-in-Ok-On-clause-task : goal.returns-in-Ok-On-clause-task
+returns-in-Ok-On-clause-task g c =
+    let d = g.P.PmemWork.device c.args.dev.now in
+    let b = g.P.PmemWork.device c.step_on.new.dev in
+    subst (IsTask c.args.image.now) (sym (c.goes_on.ensures.left c.args.attempt))
+    (on_task c.args.image.now c.args.machine.now c.step_on.new.self c.args.attempt
+    c.args.left.now d b c.in-Ok-On.field-0 c.requires.task c.in-Ok-On.field-0-is
+    c.in-Ok-On.ensures.meaning (c.args.left.now - 1))
+
+pub returns-in-Ok-On-clause-turned : goal.returns-in-Ok-On-clause-turned
+returns-in-Ok-On-clause-turned g c =
+    on_turned c.args.image.now c.args.machine.now c.step_on.new.self c.args.attempt
+    c.args.left.now (g.P.PmemWork.device c.args.dev.now) (g.P.PmemWork.device c.step_on.new.dev)
+    c.in-Ok-On.field-0 c.goes_on.result c.in-Ok-On.field-0-is c.in-Ok-On.ensures.meaning
+    c.in-Ok-On.ensures.done c.goes_on.ensures.answer (c.goes_on.ensures.left c.args.attempt)
+
+pub returns-in-Ok-Ended-clause-turned : goal.returns-in-Ok-Ended-clause-turned
+returns-in-Ok-Ended-clause-turned g c =
+    over_turned c.args.image.now c.args.machine.now c.step_on.new.self c.args.attempt
+    c.args.left.now (g.P.PmemWork.device c.args.dev.now) (g.P.PmemWork.device c.step_on.new.dev)
+    c.in-Ok-Ended.field-0 c.in-Ok-Ended.end c.logged.result c.in-Ok-Ended.field-0-is
+    c.in-Ok-Ended.ensures.meaning c.in-Ok-Ended.ensures.ended c.in-Ok-Ended.ensures.done
+    c.logged.ensures

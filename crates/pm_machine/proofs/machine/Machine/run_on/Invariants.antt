@@ -1,4 +1,4 @@
-use Rattle.std.proofs.Common.{◌≡◌, ◌≤◌, ◌+◌, true}
+use Rattle.std.proofs.Common.{◌≡◌, ◌+◌, true, length}
 use Rattle.pool_layout.specs.Sizes.{heap_words}
 use Rattle.pm_machine.specs.Runs.{AreLines, due}
 use Rattle.pm_machine.specs.inside.Runs.{DueLeads}
@@ -9,15 +9,15 @@ invariant-loop-left g l =
     let device = g.P.PmemWork.device in
     record {
       leads : DueLeads (device l.dev) l.steps
-          (due l.image l.attempt l.left l.records l.self (device l.dev).cache)
+          (due l.image l.attempt l.left l.self.records l.self.processor (device l.dev).cache)
           (device l.fn.dev)
-          l.fn.steps (due l.image l.attempt l.image.parts.most l.fn.count l.fn.self
-          (device l.fn.dev).cache);
-      dirty : AreLines (heap_words l.image.parts.sizes) l.self.dirty;
+          l.fn.steps (due l.image l.attempt l.image.parts.most l.fn.self.records
+          l.fn.self.processor (device l.fn.dev).cache);
+      dirty : AreLines (heap_words l.image.parts.sizes) l.self.processor.dirty;
       lines : (device l.dev).lines ≡ (device l.fn.dev).lines;
       on : (device l.dev).on ≡ true;
-      few : l.records ≤ l.image.parts.sizes.records;
-      logged : l.self.logged + l.fn.count ≡ l.records + l.fn.self.logged;
+      taken : length l.self.records.words + l.fn.self.records.count
+          ≡ l.self.records.count + length l.fn.self.records.words;
       spent : l.steps + l.left ≡ l.fn.steps + l.image.parts.most;
     }
 

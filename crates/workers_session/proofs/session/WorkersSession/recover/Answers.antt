@@ -1,4 +1,5 @@
 use Rattle.std.proofs.Common.{◌∙◌, sym}
+use Rattle.pm_machine.specs.declared.records.Policy.TheVariants.{EndPool}
 use Rattle.pool_workers.specs.Crew.{compartment}
 use Rattle.workers_session.proofs.Onward.{recovered_on}
 use Rattle.workers_session.proofs.session.WorkersSession.recover.Goals as goal
@@ -9,6 +10,6 @@ returns-clause-on g c =
     let d = g.P.PmemWork.device c.args.dev.now in
     let b = g.P.PmemWork.device c.recover_one-answer.new.dev in
     λ goes.
-    recovered_on c.recover_one-answer.result image (compartment image c.args.worker d)
+    recovered_on c.recover_one-answer.result EndPool image (compartment image c.args.worker d)
     (compartment image c.args.worker b) c.args.steps.now c.recover_one-answer.new.steps
     c.recover_one-answer.ensures.recovered (sym c.ends_power.ensures ∙ goes) c.requires.on

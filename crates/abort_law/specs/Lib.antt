@@ -1,9 +1,0 @@
-pub mod Machine
-pub mod Owing
-pub mod Cuts
-pub mod Beside
-pub mod Steps
-pub mod Records
-pub mod Rollback
-pub mod Faults
-pub mod Exact

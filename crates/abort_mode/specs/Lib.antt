@@ -1,4 +1,0 @@
-pub mod Runs
-pub mod Due
-pub mod Answers
-pub mod inside
