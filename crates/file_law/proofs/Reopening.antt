@@ -19,11 +19,10 @@ use Rattle.crash_law.specs.Law.{IsAtRest, IsCut}
 use Rattle.crash_law.specs.Pools.{IsBefore}
 use Rattle.run_law.specs.Seen.{result_of, E, W}
 use Rattle.cut_law.specs.Law.{call_of, pool_with}
-use Rattle.abort_law.specs.Cuts.{IsMarkedCut}
 use Rattle.cnvm_session.specs.declared.answer.Answer.{Answer}
 use Rattle.cnvm_session.specs.declared.mode.Mode.{Mode}
 use Rattle.cnvm_session.specs.declared.program.Program.{Program}
-use Rattle.cnvm_session.specs.Marks.{rolls_back_of}
+use Rattle.cnvm_session.specs.Marks.{rolls_back_of, policy_of}
 use Rattle.cnvm_session.specs.Opening.{opening_events}
 use Rattle.cnvm_session.specs.Outcomes.{Opens}
 use Rattle.cnvm_session.specs.Pool.{sizes_of}
@@ -51,7 +50,7 @@ module _ (program : Program) (super : Words) (d e : Device) (s : SourceState)
 
   carried_owed : (owed : Pending) (marked : Bool) → OwesBy marked program super owed d s
       → OwesBy marked program super owed e s
-  carried_owed owed false owes = record {
+  carried_owed owed marked owes = record {
     heap = owes.heap;
     holds = owes.holds;
     takes = owes.takes;
@@ -62,22 +61,9 @@ module _ (program : Program) (super : Words) (d e : Device) (s : SourceState)
     left =
         carry
         (IsCut (pool_with program.image super) (call_of s.done owed.tx owed.args)
-        (E owes.effects) (W owes.effects) owes.heap (heap_end owes.heap owes.effects) s.last
-        (result_of owes.end))
-        owes.left;
-  }
-  carried_owed owed true owes = record {
-    heap = owes.heap;
-    holds = owes.holds;
-    takes = owes.takes;
-    words = owes.words;
-    end = owes.end;
-    effects = owes.effects;
-    ran = owes.ran;
-    left =
-        carry
-        (IsMarkedCut (pool_with program.image super) (call_of s.done owed.tx owed.args)
-        owes.heap (heap_end owes.heap owes.effects) s.last owes.end)
+        (E (policy_of marked) owes.effects) (W owes.effects) owes.heap
+        (heap_end owes.heap owes.effects) s.last
+        (result_of (policy_of marked) s.last owes.end))
         owes.left;
   }
 

@@ -116,10 +116,11 @@ fn redo<P: PmemWork, L: Ledger>(
 ///
 /// A pool with a mark stays as it is. Otherwise, if records are valid, their old values are
 /// restored if a call was sealed, and the next attempt begins; and a sealed call runs again from
-/// its recorded arguments and is settled, by the policy of its transaction. A sealed record that names no transaction of the image,
-/// which no pool of the image holds, is answered with `Numbers`, without an event. On a device that
-/// is off the answer is `Off(Unsealed)`, and nothing has changed. If no call was sealed it takes no
-/// step, else at most one for each valid record and those of the run.
+/// its recorded arguments and is settled, by the policy of its transaction. A sealed record that
+/// names no transaction of the image, which no pool of the image holds, is answered with `Numbers`,
+/// without an event. On a device that is off the answer is `Off(Unsealed)`, and nothing has
+/// changed. If no call was sealed it takes no step, else at most one for each valid record and
+/// those of the run.
 pub fn recover<P: PmemWork, L: Ledger>(
     alloc: Global,
     image: &Image,
