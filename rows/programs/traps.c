@@ -35,3 +35,12 @@ tx abort int64_t take(int64_t amount) {
     if (root.n < 0) { abort(); }
     return root.n;
 }
+
+tx int64_t fill(int64_t nodes) {
+    for (int64_t i = 0; i < nodes; i++) {
+        struct Node *node = pm_new(struct Node);
+        node->next = root.first;
+        root.first = node;
+    }
+    return nodes;
+}
