@@ -3,7 +3,7 @@ use Rattle.std.proofs.Common.{◌≡◌, ℕ, zero, suc, ◌+◌, ◌-◌, ◌*�
 use Rattle.std.proofs.Common.{false, List, [], ◌∷◌, ◌++◌, length, Option, Some, None, refl, sym, ap}
 use Rattle.std.proofs.Common.{◌∙◌, subst, arith, ⊎_elim}
 use Rattle.std.specs.Option.{option_map_or}
-use Rattle.std.specs.Prelude.{slice_get, option_map, if◌then◌else◌, nat_lt, Ok}
+use Rattle.std.specs.Prelude.{slice_get, option_map, if◌then◌else◌, Ok}
 use Rattle.std.proofs.lemmas.List.{length-map}
 use Rattle.std.proofs.lemmas.Option.{slice_get-map, slice_get_within, none-some}
 use Rattle.cache_model.specs.Cache.{Words}
@@ -17,7 +17,6 @@ use Rattle.c_tree.specs.Program as parser
 use Rattle.c_types.specs.Tables.{Tables, tables_of}
 use Rattle.c_types.specs.Shapes.{shapes_of}
 use Rattle.c_meaning.specs.Meaning.{Out, Got, Stops, function_value, calls_of}
-use Rattle.c_meaning.specs.Transaction as meaning
 use Rattle.c_meaning.specs.Transaction.{Outcome, outcome, run_transaction}
 use Rattle.ir.specs.declared.instruction.Target.{Target}
 use Rattle.ir.specs.declared.instruction.Instruction.{Instruction}
@@ -52,7 +51,7 @@ use Rattle.log_law.proofs.inserted.Origins.{origin}
 use Rattle.code_meaning.specs.Code.{CodeEnd, code_start, exec}
 use Rattle.code_meaning.specs.Code.{load_spot}
 use Rattle.code_meaning.specs.Code as code
-use Rattle.code_meaning.specs.Deeds.{Deed, deeds}
+use Rattle.code_meaning.specs.Deeds.{Deed}
 use Rattle.code_meaning.proofs.Registers.{register_at-is}
 use Rattle.pm_machine.specs.declared.effect.End as machine_end
 use Rattle.pm_machine.specs.declared.image.ImageParts.{ImageParts}

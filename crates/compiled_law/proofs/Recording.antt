@@ -1,6 +1,6 @@
 -- The words that take a record in the machine's run are those of the code's stores that ask for
 -- one.
-use Rattle.std.proofs.Common.{◌≡◌, ◌||◌, ◌==◌, inl, inr, ℕ, suc, ◌+◌, if◌then◌else◌, nat_eq, Bool}
+use Rattle.std.proofs.Common.{◌≡◌, ◌||◌, inl, inr, ℕ, suc, ◌+◌, if◌then◌else◌, nat_eq, Bool}
 use Rattle.std.proofs.Common.{true, false, Option, Some, None, List, [], ◌∷◌, ◌++◌, refl, sym, ap}
 use Rattle.std.proofs.Common.{◌∙◌, subst, eq-eqb, arith}
 use Rattle.std.specs.List.{list_any}

@@ -1,6 +1,6 @@
 -- The machine's run of a compiled transaction is sound, and ends as its code does.
-use Rattle.std.proofs.Common.{◌≡◌, ℕ, zero, suc, ◌*◌, ◌-◌, ◌<◌, ◌≤◌, Bool, ℤ, true, false, nat_lt}
-use Rattle.std.proofs.Common.{List, [], Some, refl, sym, ◌∙◌, subst, inl, inr, arith}
+use Rattle.std.proofs.Common.{◌≡◌, ℕ, zero, suc, ◌*◌, ◌-◌, ◌≤◌, Bool, ℤ, true}
+use Rattle.std.proofs.Common.{List, [], Some, refl, subst}
 use Rattle.std.specs.Prelude.{slice_get}
 use Rattle.cache_model.specs.Cache.{Words}
 use Rattle.pool_map.specs.PoolFits.{PoolFits}
@@ -35,7 +35,6 @@ use Rattle.pm_machine.specs.Machine as machine
 use Rattle.pm_machine.specs.Effects.{heap_end}
 use Rattle.pm_machine.specs.Logging.{blank, takes}
 use Rattle.pm_machine.proofs.Fuel.{more_fuel}
-use Rattle.run_law.specs.Sound.{IsSoundRun}
 use Rattle.cnvm_session.specs.Marks.{policy_of}
 use Rattle.machine_law.proofs.emitted.SoundRun.{sound_run}
 use Rattle.machine_law.specs.pieces.Stands.{Stands}

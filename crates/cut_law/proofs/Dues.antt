@@ -13,7 +13,7 @@ use Rattle.pool_layout.specs.Log.{count, WellMade}
 use Rattle.pool_layout.proofs.Records.{log_is, pos_inj}
 use Rattle.pool_map.specs.declared.trap.TrapKind.{TrapKind}
 use Rattle.clobber_log.specs.Logs.{attempt_of, count_in}
-use Rattle.args_log.specs.Retire.{retire_events, mark_events}
+use Rattle.args_log.specs.Retire.{retire_events}
 use Rattle.pm_machine.specs.declared.effect.Effect.{Effect}
 use Rattle.pm_machine.specs.declared.effect.End.{End}
 use Rattle.pm_machine.specs.declared.effect.End.TheVariants.{Halted, Trapped}

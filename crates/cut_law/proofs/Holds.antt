@@ -25,7 +25,7 @@ use Rattle.pm_machine.specs.declared.effect.Effect.{Effect}
 use Rattle.pm_machine.specs.declared.effect.Effect.TheVariants.{Loads, Scans, Stores, Logs, Flushes}
 use Rattle.pm_machine.specs.declared.effect.Effect.TheVariants.{Fences, Quiet}
 use Rattle.pm_machine.specs.Effects.{records_end}
-use Rattle.crash_law.specs.Due.{Entry, Plain, Logged, IsTrace, Records, no_records, with_record}
+use Rattle.crash_law.specs.Due.{Entry, Plain, Logged, IsTrace, Records, with_record}
 use Rattle.crash_law.specs.Due.{records_after, run_events, undo_events}
 use Rattle.crash_law.specs.Effects.{IsPaired, trace_of}
 use Rattle.crash_law.specs.Effects as past

@@ -1,8 +1,8 @@
 -- The effect of a call and of a recovery on the device, by their answers.
-use Rattle.std.proofs.Common.{◌≡◌, ◌⊎◌, ⊎_elim, ℕ, suc, ◌+◌, ◌^◌, ◌<◌, ◌≤◌, List, length, Some}
-use Rattle.std.proofs.Common.{ℤ, pos, sym, ap, ◌∙◌, subst, arith}
+use Rattle.std.proofs.Common.{◌≡◌, ◌⊎◌, ⊎_elim, ℕ, ◌+◌, ◌^◌, ◌<◌, ◌≤◌, List, length, Some}
+use Rattle.std.proofs.Common.{ℤ, sym, ap, ◌∙◌, subst, arith}
 use Rattle.cache_model.specs.Event.{CacheEvent}
-use Rattle.cache_model.specs.Cache.{Words, view}
+use Rattle.cache_model.specs.Cache.{Words}
 use Rattle.cache_model.specs.Play.{play}
 use Rattle.cache_model.specs.Image.{Images, HasOne}
 use Rattle.cache_model.specs.During.{during}

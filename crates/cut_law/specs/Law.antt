@@ -1,17 +1,15 @@
 -- The events that a call and a recovery play are the due lists of the crash law, so after each of
 -- them the image is one of those that the law names.
 use Rattle.std.specs.Prelude.{ℕ, ◌^◌, ◌<◌, ◌≤◌, ◌≡◌, ◌⊎◌, List, length, ℤ, pos}
-use Rattle.cache_model.specs.Cache.{Words, Cache, view}
+use Rattle.cache_model.specs.Cache.{Words, Cache}
 use Rattle.cache_model.specs.Play.{play}
 use Rattle.cache_model.specs.Image.{HasOne}
-use Rattle.pool_layout.specs.declared.places.TheConstants.{DONE, ATTEMPT, ARGUMENTS}
+use Rattle.pool_layout.specs.declared.places.TheConstants.{ARGUMENTS}
 use Rattle.pool_layout.specs.Places.{pool_of}
 use Rattle.pool_layout.specs.Log.{count}
 use Rattle.pool_layout.specs.Good.{Pool, Good}
-use Rattle.clobber_log.specs.Logs.{count_in}
 use Rattle.pm_machine.specs.declared.effect.Effect.{Effect}
 use Rattle.pm_machine.specs.declared.effect.End.{End}
-use Rattle.pm_machine.specs.declared.effect.End.TheVariants.{Halted}
 use Rattle.pm_machine.specs.declared.image.Image.{Image}
 use Rattle.pm_machine.specs.Effects.{heap_end}
 use Rattle.pm_machine.specs.declared.records.Policy.{Policy}

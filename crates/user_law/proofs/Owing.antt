@@ -1,6 +1,6 @@
 -- In which images the seal of an owed call is, after each step.
 use Rattle.std.proofs.Common.{◌≡◌, ◌⊎◌, inl, inr, ⊎_elim, ℕ, suc, ◌==◌, Bool, true, false, List}
-use Rattle.std.proofs.Common.{length, Option, Some, None, ℤ, pos, int_eq, refl, sym, ap, ◌∙◌, subst}
+use Rattle.std.proofs.Common.{length, Option, Some, None, ℤ, pos, refl, sym, ap, ◌∙◌, subst}
 use Rattle.std.proofs.lemmas.Bool.Decides.{Decides-int_eq}
 use Rattle.cache_model.specs.Cache.{Words, Cache, view}
 use Rattle.cache_model.specs.Image.{Images}
@@ -23,8 +23,6 @@ use Rattle.cnvm_session.specs.Laws.{IsBadPick}
 use Rattle.cnvm_session.proofs.Refusing.{command_kept}
 use Rattle.session_law.specs.Agrees.{Agrees}
 use Rattle.session_law.specs.State.{Pending}
-use Rattle.session_law.specs.State as session
-use Rattle.session_law.specs.Answers as machine
 use Rattle.session_law.specs.Holds.{HoldsAs, Holds}
 use Rattle.session_law.specs.Ran.{found_by}
 use Rattle.session_law.specs.Law.{IsWordCommand}

@@ -1,8 +1,7 @@
 -- Each step of the machine's session is one of the user's, and so is each session.
-use Rattle.std.proofs.Common.{◌≡◌, ◌⊎◌, inl, inr, ⊎_elim, ℕ, zero, suc, ◌+◌, ◌==◌, ◌≤◌, Bool, true}
+use Rattle.std.proofs.Common.{◌≡◌, ◌⊎◌, inl, inr, ℕ, suc, ◌+◌, ◌==◌, ◌≤◌, Bool, true}
 use Rattle.std.proofs.Common.{false, if◌then◌else◌, List, [], ◌∷◌, ◌++◌, length, Option, Some, None}
 use Rattle.std.proofs.Common.{ℤ, refl, sym, ap, ◌∙◌, subst, arith}
-use Rattle.std.specs.List.{AllByRecursion}
 use Rattle.nvm_base.proofs.Tests.{same_true}
 use Rattle.cache_model.specs.Cache.{Words}
 use Rattle.pmem.specs.Device.{Device}
@@ -19,13 +18,13 @@ use Rattle.session_law.specs.Holds.{Holds}
 use Rattle.session_law.specs.History.{call_to, called_by, waiting_of, is_retired, recovered_by}
 use Rattle.session_law.specs.History.{done_by}
 use Rattle.session_law.specs.Law.{IsWordCommand}
-use Rattle.session_law.specs.Ran.{found_by, Moment, SessionStep, Ran}
+use Rattle.session_law.specs.Ran.{found_by, Moment, SessionStep}
 use Rattle.session_law.proofs.Histories.{answer_done}
 use Rattle.user_law.specs.Source.{Source, Logs}
 use Rattle.user_law.specs.State.{UserStanding, Ready, Idle, Owed, Unusable, UserState}
 use Rattle.user_law.specs.History.{owed_in, subject_of, finished_by}
 use Rattle.user_law.specs.Keeps.{UserKeeps}
-use Rattle.user_law.specs.Ran.{UserMoment, UserStep, UserRan}
+use Rattle.user_law.specs.Ran.{UserMoment, UserStep}
 use Rattle.user_law.specs.Seen.{source_in, plain, plain_standing, HasCounts, IsSeenAs, StepLaw}
 use Rattle.user_law.specs.Seen.{RanLaw}
 use Rattle.user_law.proofs.Keeping.{keeps_law}

@@ -1,6 +1,6 @@
 -- The history of a session: the transactions that are finished, in order. It is a function of the
 -- states: a step finishes a transaction exactly where the count of finished ones rises.
-use Rattle.std.specs.Prelude.{ℕ, ◌==◌, Bool, true, false, List, [], ◌∷◌, ◌++◌}
+use Rattle.std.specs.Prelude.{◌==◌, Bool, true, false, List, [], ◌∷◌, ◌++◌}
 use Rattle.pool_map.specs.PoolMap.{PoolMap}
 use Rattle.c_meaning.specs.Transaction.{Outcome, Done, Trap}
 use Rattle.cnvm_script.specs.declared.command.Command.{Command}

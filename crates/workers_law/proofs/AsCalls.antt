@@ -13,8 +13,7 @@ use Rattle.pm_machine.specs.declared.records.Policy.TheVariants.{EndPool}
 use Rattle.pool_map.specs.declared.trap.TrapKind.TheVariants.{LogFull}
 use Rattle.pm_machine.specs.declared.effect.End.{End}
 use Rattle.pm_machine.specs.declared.effect.End.TheVariants.{Halted, Trapped}
-use Rattle.pm_machine.specs.declared.effect.Effect.{Effect}
-use Rattle.pm_machine.specs.Logging.{Logging, Turn, Plays, Stops, turn, turn_of, missing, noted}
+use Rattle.pm_machine.specs.Logging.{Logging, Plays, Stops, turn, missing, noted}
 use Rattle.pm_machine.specs.Logging.{with_record, has_room}
 use Rattle.pm_machine.specs.Machine.{State, StepOutcome, Goes, Ends, step, start}
 use Rattle.pm_machine.specs.Runs.{heap_in, due, owing, played, end_of, due_on, logging_on}

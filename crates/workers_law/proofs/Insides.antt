@@ -1,7 +1,7 @@
 -- A call's events lie within its pool.
 use Rattle.std.proofs.Common.{◌≤◌, ◌+◌, ◌*◌, ℕ, zero, suc, List, [], ◌∷◌, ◌++◌, length, take, w64}
 use Rattle.std.proofs.Common.{◌≡◌, ◌<◌, ℤ, Option, Some, None, Bool, true, false, if◌then◌else◌}
-use Rattle.std.proofs.Common.{refl, subst, arith, nat_lt, nat_eq}
+use Rattle.std.proofs.Common.{refl, subst, arith, nat_eq}
 use Rattle.std.specs.List.{list_any}
 use Rattle.std.proofs.lemmas.Bool.{ltb-true}
 use Rattle.std.specs.Int.{cast_signed}

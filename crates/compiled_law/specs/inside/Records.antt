@@ -1,7 +1,7 @@
 -- How many words take a record in a run, by a function that says which sites are logged: those of
 -- its stores of words at these sites and of all its stores of headers, and where the run may roll
 -- back those of all its stores. Each counts once.
-use Rattle.std.specs.Prelude.{ℕ, suc, Bool, true, false, ◌||◌, List, [], ◌∷◌, if◌then◌else◌}
+use Rattle.std.specs.Prelude.{ℕ, suc, Bool, ◌||◌, List, [], ◌∷◌, if◌then◌else◌}
 use Rattle.nvm_base.specs.Listed.{is_listed}
 use Rattle.ir.specs.declared.site.Site.{Site}
 use Rattle.code_meaning.specs.Deeds.{Deed, Reads, Writes, Heads}
