@@ -13,6 +13,7 @@ use Rattle.pool_layout.specs.Good.{Lost, Good}
 use Rattle.pool_map.specs.declared.trap.TrapKind.{TrapKind}
 use Rattle.pool_map.specs.declared.trap.TrapKind.TheVariants as trap
 use Rattle.pool_map.specs.Trap.{trap_number}
+use Rattle.clobber_log.specs.Logs.{attempt_in}
 use Rattle.pm_machine.specs.declared.effect.End.{End}
 use Rattle.pm_machine.specs.declared.effect.End.TheVariants.{Halted, Trapped}
 use Rattle.pm_machine.specs.declared.image.Image.{Image}
@@ -22,7 +23,7 @@ use Rattle.pm_machine.specs.Effects.{heap_end}
 use Rattle.pm_machine.specs.Logging as log
 use Rattle.pm_machine.specs.Logging.{Logging, Turn, Plays, Stops, turn_of, blank}
 use Rattle.pm_machine.specs.Machine.{State, start}
-use Rattle.pm_machine.specs.Runs.{heap_in, due, owing, played}
+use Rattle.pm_machine.specs.Runs.{heap_in, logging_on, due, owing, played}
 use Rattle.crash_law.specs.Law.{IsAtRest, IsCut, AreMarked}
 use Rattle.run_law.specs.Seen.{result_of, E, W}
 use Rattle.tx_run.specs.declared.standing.Standing.TheVariants as stands
@@ -137,7 +138,10 @@ stepped_uncut a k g (Plays es h t) = going_uncut (machine_at t h) a (k - 1)
 stepped_uncut a k g (Stops end) = tt
 
 past_uncut : (image : Image) (t : Task) (c : Cache) → IsUncut t → IsUncutOr (task_past image t c)
-past_uncut image (Begun tx args m) c uncut = going_uncut _ _ image.parts.most
+past_uncut image (Begun tx args m) c uncut =
+    let sealed : Cache = play c (due_seal tx args c) in
+    going_uncut (machine_at m.processor (logging_on EndPool image.parts.sizes sealed))
+    (attempt_in image.parts.sizes (view sealed)) image.parts.most
 past_uncut image (Running m a k) c uncut =
     stepped_uncut a k m.records
     (turn_of image m.records m.processor (heap_in image.parts.sizes c))

@@ -16,6 +16,7 @@ use Rattle.pool_workers.specs.declared.answer.TurnAnswer.TheVariants as turned
 use Rattle.pool_workers.specs.declared.task.Task.{Task}
 use Rattle.pool_workers.specs.Crew.{Tasks, task_at, compartment, standing_at}
 use Rattle.workers_law.proofs.FaultCounts.{turn_faults}
+use Rattle.pm_machine.specs.declared.records.Policy.TheVariants.{EndPool}
 use Rattle.cnvm_session.specs.declared.answer.Answer.TheVariants as answer
 use Rattle.cnvm_session.specs.declared.program.Program.{Program}
 use Rattle.cnvm_session.specs.Commands.{call_number, tx_parameters, fallen}
@@ -268,7 +269,7 @@ module _ (image : Image) where
       → RecoversFrom image worker n x lines y → BlamesRightly x lines y
   recovers zero worker x lines y is = unchanged x [] lines y (λ none. none) is
   recovers (suc n) worker x lines y is =
-      let counts = recovery_counts is.0 image (compartment image worker x.device)
+      let counts = recovery_counts is.0 EndPool image (compartment image worker x.device)
       (compartment image worker is.2.device) x.steps is.2.steps is.3.recovered in
       joined x is.2 y (line.Own worker (answer_of_recovery is.0) ∷ []) is.1 lines (
         counts.0,
