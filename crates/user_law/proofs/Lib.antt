@@ -8,3 +8,4 @@ pub mod Meaning
 pub mod Sealing
 pub mod Owing
 pub mod Stepping
+pub mod Ending

@@ -8,3 +8,4 @@ pub mod Ran
 pub mod Run
 pub mod Seen
 pub mod Stays
+pub mod Ends

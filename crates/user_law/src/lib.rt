@@ -5,6 +5,8 @@
 #![tactic(auto)]
 
 ghost use Rattle.user_law.specs.Stays.{StaysLaw, UserWholeLaw, UserKeptLaw, HeadLaw, RunHeadLaw};
+ghost use Rattle.user_law.specs.Ends.{UndisturbedLaw, QuietScriptLaw, CallEndsLaw};
+ghost use Rattle.user_law.specs.Ends.{RecoveryEndsLaw};
 ghost use Rattle.user_law.specs.Seen.{KeepsLaw, PlayedLaw, MeantLaw, SealKeptLaw, StepLaw, RanLaw};
 
 /// Of each chain, whatever the device and the machine are: once an image had the seal of a call,
@@ -16,6 +18,16 @@ pub fn chain_law()
     ensures kept { UserKeptLaw }
     ensures head { HeadLaw }
     ensures run { RunHeadLaw }
+{}
+
+/// Of each chain: where no cut and no fault is armed, no command is cut off, and each call and each
+/// recovery ends, unless memory is wanting, a number is at its end, or a pick doesn't fit. It does
+/// nothing.
+pub fn end_law()
+    ensures undisturbed { UndisturbedLaw }
+    ensures script { QuietScriptLaw }
+    ensures call { CallEndsLaw }
+    ensures recovery { RecoveryEndsLaw }
 {}
 
 /// Each step of a session of the machine is one of the user's, and so is each session. It does
