@@ -1,0 +1,93 @@
+-- A compiled text has one meaning, by which each session on a new pool is a run as its user sees it.
+use Rattle.std.proofs.Common.{◌≡◌, ℕ, List, length, refl, ap, ◌∙◌, subst}
+use Rattle.std.proofs.lemmas.List.{length-map}
+use Rattle.pmem.specs.Device.{Device}
+use Rattle.c_lexer.specs.declared.token.Placed.{Placed}
+use Rattle.c_lexer.specs.TokenList.{Tokens}
+use Rattle.c_tree.specs.Program as tree
+use Rattle.c_tree.specs.Program.{tree_of}
+use Rattle.rules_law.proofs.typed.Laws.{accepted}
+use Rattle.pm_machine.specs.declared.image.ImageParts.{ImageParts}
+use Rattle.cnvm_session.specs.declared.mode.Mode.TheVariants.{Ready}
+use Rattle.cnvm_session.specs.declared.program.Program.{Program}
+use Rattle.cnvm_session.specs.Pool.{sizes_of}
+use Rattle.session_law.specs.Law.{super_words}
+use Rattle.session_law.specs.Ran.{fresh_moment}
+use Rattle.session_law.proofs.Scripts.{script_words}
+use Rattle.compiled_law.specs.Law.{IsCompiledFrom}
+use Rattle.user_law.specs.Source.{Source, Logs}
+use Rattle.user_law.specs.State.{first_state}
+use Rattle.user_law.specs.Keeps.{UserKeeps}
+use Rattle.user_law.specs.Ran.{UserRan}
+use Rattle.user_law.specs.Run.{source_of, first_moment, TextMeaning, source_with}
+use Rattle.user_law.specs.Seen.{source_in, IsSeenAs}
+use Rattle.user_law.proofs.Keeping.{keeps_law}
+use Rattle.user_law.proofs.Stepping.{ran_law}
+use Rattle.text_law.specs.Law.{IsOfText, IsMeaningOf, TextLaw, UserRunLaw}
+use Rattle.text_law.proofs.Counting.{tree_logs, tree_counts}
+
+module _ (text : List ℕ) (list : Tokens) (first : Program)
+    (compiled : IsCompiledFrom text list first) where
+  abbrev meaning : TextMeaning text
+  meaning = record {
+    items = tree_of first.typed;
+    has = record {
+      list = list;
+      left = compiled.left;
+      spelled = compiled.spelled;
+      typed = accepted first.typed compiled.checked;
+    };
+    logs = tree_logs compiled.marks first.typed compiled.exact;
+  }
+
+  tokens_are : length first.typed.lines ≡ length list.tokens
+  tokens_are = ap (λ (ls : List ℕ). length ls) compiled.lines
+      ∙ length-map list.tokens (λ (placed : Placed). placed.line)
+
+  source_is : (program : Program) → IsOfText text first program →
+      source_in program (meaning.logs (sizes_of program)) ≡ source_with meaning (sizes_of program)
+  source_is program is =
+      ap (λ (x : tree.Program). source_of (tree_of x) (length x.lines) (sizes_of program)
+      (meaning.logs (sizes_of program))) is.same
+      ∙ ap (λ (n : ℕ). source_of (tree_of first.typed) n (sizes_of program)
+      (meaning.logs (sizes_of program))) tokens_are
+
+  pub text_means : (m : TextMeaning text) × IsMeaningOf text first m
+  text_means = (
+    meaning,
+    record {
+      items = refl;
+      source = source_is;
+      counts = λ program is. record {
+        logged = tree_counts compiled.marks first.typed compiled.exact program is.same;
+        most = ap (λ (x : ImageParts). x.most) is.compiled.made;
+      };
+    },
+  )
+
+pub text_law : TextLaw
+text_law text list first compiled = text_means text list first compiled
+
+pub run_law : UserRunLaw
+run_law text script first program meaning commands answers d k y means of agrees holds spelled ran =
+    let logs : Logs = meaning.logs (sizes_of program) in
+    let p : Source = source_in program logs in
+    let same : p ≡ source_with meaning (sizes_of program) = means.source program of in
+    let keeps : UserKeeps p d (first_state p) =
+    keeps_law program logs (super_words program) Ready d (first_state p) holds tt in
+    let seen : IsSeenAs (fresh_moment program d k) (first_moment p d) =
+    record { device = refl; state = refl; history = refl } in
+    let last = ran_law program (super_words program) logs commands answers
+    (fresh_moment program d k) y (first_moment p d) agrees (means.counts program of)
+    (script_words script commands spelled) holds seen keeps ran in
+    record {
+      holds = subst (λ (x : Source). UserKeeps x d (first_state x)) same keeps;
+      commands = commands;
+      spelled = spelled;
+      answers = answers;
+      last = last.0;
+      ran = subst (λ (x : Source). UserRan x commands answers (first_moment x d) last.0) same
+          last.2;
+      ends = last.1.device;
+      written_is = refl;
+    }
