@@ -162,8 +162,8 @@ by_meanings asked text compiled P is each =
     (compiled.program, from.0, from.1, each)
 
 pub call_law : UserCallLaw
-call_law p s slots records ticks told before after (inl no) =
-    absurd (never_refused no.0 before.out after.out no.2)
+call_law p s slots records ticks told before after (inl refusal) =
+    absurd (never_refused refusal.0 before.out after.out refusal.2)
 call_law p s slots records ticks told before after (inr ran) =
     let asked : Asked = asked_by slots records ticks in
     let gives : TextsGive asked told.program told.script ran.0 ran.1 = ran.2 in
@@ -176,7 +176,7 @@ call_law p s slots records ticks told before after (inr ran) =
     means of before after job.0)))
 
 pub part_law : UserPartLaw
-part_law p s slots records ticks told before after (inl no) = inl (no.0, no.1)
+part_law p s slots records ticks told before after (inl refusal) = inl (refusal.0, refusal.1)
 part_law p s slots records ticks told before after (inr ran) =
     let asked : Asked = asked_by slots records ticks in
     let gives : TextsGive asked told.program told.script ran.0 ran.1 = ran.2 in
