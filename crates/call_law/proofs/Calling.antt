@@ -17,7 +17,7 @@ use Rattle.session_law.specs.Ran.{Ran, fresh_moment}
 use Rattle.session_law.proofs.Chains.{ran_append}
 use Rattle.session_law.proofs.Scripts.{script_words}
 use Rattle.user_law.specs.Run.{TextMeaning, IsUserRun}
-use Rattle.text_law.specs.Law.{IsOfText, IsMeaningOf}
+use Rattle.text_law.specs.Law.{IsOfText}
 use Rattle.text_law.proofs.Meaning.{seen_on, run_law}
 use Rattle.session_run.specs.declared.status.Status.{Status}
 use Rattle.session_run.specs.declared.status.Status.TheVariants as status
@@ -32,8 +32,8 @@ use Rattle.cnvm_cli.specs.Run.{ToldAs, RefusedAs}
 use Rattle.cnvm_cli.specs.Verdict.{OfBytes, asked_by, TextsGive}
 use Rattle.cnvm_cli.specs.World.{Outside}
 use Rattle.call_law.specs.Call.{IsUserCall, IsUserPart}
-use Rattle.call_law.specs.Law.{ByMeanings, UserCallLaw, UserPartLaw}
-use Rattle.call_law.proofs.Compiling.{compiled_from, pool_made}
+use Rattle.call_law.specs.Law.{IsTextMeaning, UserCallLaw, UserPartLaw}
+use Rattle.call_law.proofs.Compiling.{of_text, pool_made}
 
 -- no refusal has status 0
 not_done : (why : Refused) → status.Done ≡ refusal_status why → ⊥
@@ -90,11 +90,13 @@ first_words (c ∷ cs) ds words = (words.0, first_words cs ds words.1)
 
 module _ (asked : Asked) (text script : List ℕ) (compiled : Compiled)
     (is : IsCompiled asked text compiled) (commands : List Command)
-    (spelled : script_meaning script ≡ Ok commands) (first : Program) (meaning : TextMeaning text)
-    (means : IsMeaningOf text first meaning) (of : IsOfText text first compiled.program)
-    (before after : Outside) where
+    (spelled : script_meaning script ≡ Ok commands) (meaning : TextMeaning text)
+    (means : IsTextMeaning text meaning) (before after : Outside) where
   abbrev program : Program
   program = compiled.program
+
+  of : IsOfText text program program
+  of = of_text text asked asked compiled compiled is is
 
   whole : MeansAll program commands before.out after.out before.dev after.dev before.steps
       after.steps → IsUserCall asked text script meaning before after
@@ -104,12 +106,12 @@ module _ (asked : Asked) (text script : List ℕ) (compiled : Compiled)
       record {
         sizes = sizes_of program;
         made = b;
-        pool = pool_made asked text compiled is first meaning means of before.dev b r.1;
+        pool = pool_made asked text compiled is meaning means before.dev b r.1;
         written = flat_map answer_text all.answers;
         run = subst (λ (e : Device). IsUserRun text script meaning (sizes_of program) b e
             (flat_map answer_text all.answers)) all.device
-            (run_law text script first program meaning commands all.answers b before.steps all.last
-            means of is.agrees r.2 spelled all.ran);
+            (run_law text script program program meaning commands all.answers b before.steps
+            all.last (means asked compiled is) of is.agrees r.2 spelled all.ran);
         appended = subst (λ (bs : List ℕ). Appends before.out after.out bs)
             (texts_same all.answers) all.written;
       }
@@ -130,12 +132,12 @@ module _ (asked : Asked) (text script : List ℕ) (compiled : Compiled)
       ran_append program (super_words program) part.first (part.next ∷ []) part.answers
       (part.answer ∷ []) (fresh_moment program b before.steps) part.before part.last part.ran
       (part.last, part.step, refl) in
-      let seen = seen_on means of is.agrees done (part.answers ++ part.answer ∷ []) b before.steps
-      part.last words r.2 chain in
+      let seen = seen_on (means asked compiled is) of is.agrees done (part.answers ++ part.answer ∷ []) b
+      before.steps part.last words r.2 chain in
       record {
         sizes = sizes_of program;
         made = b;
-        pool = pool_made asked text compiled is first meaning means of before.dev b r.1;
+        pool = pool_made asked text compiled is meaning means before.dev b r.1;
         holds = seen.0;
         first = done;
         later = part.others;
@@ -151,16 +153,6 @@ module _ (asked : Asked) (text script : List ℕ) (compiled : Compiled)
         part = part.part;
       }
 
--- it holds by each meaning of the text, if it holds by those of the compiled program
-by_meanings : (asked : Asked) (text : List ℕ) (compiled : Compiled) (P : TextMeaning text → Type 0)
-    → IsCompiled asked text compiled
-    → ((first : Program) (meaning : TextMeaning text) → IsMeaningOf text first meaning
-    → IsOfText text first compiled.program → P meaning)
-    → ByMeanings text P
-by_meanings asked text compiled P is each =
-    let from = compiled_from asked text compiled is in
-    (compiled.program, from.0, from.1, each)
-
 pub call_law : UserCallLaw
 call_law p s slots records ticks told before after (inl refusal) =
     absurd (never_refused refusal.0 before.out after.out refusal.2)
@@ -168,12 +160,11 @@ call_law p s slots records ticks told before after (inr ran) =
     let asked : Asked = asked_by slots records ticks in
     let gives : TextsGive asked told.program told.script ran.0 ran.1 = ran.2 in
     let job : JobMeant false Fresh ran.0.program ran.1 status.Done before after = ran.3 in
-    of_bytes told.program gives.0 (λ text is.
-    of_bytes told.script gives.1 (λ script has.
-    by_meanings asked text ran.0
-    (λ meaning. IsUserCall asked text script meaning before after) is
-    (λ first meaning means of. whole asked text script ran.0 is ran.1 has.1 first meaning
-    means of before after job.0)))
+    of_bytes told.program gives.0 (λ text is. (
+      (ran.0, is),
+      of_bytes told.script gives.1 (λ script has meaning means.
+          whole asked text script ran.0 is ran.1 has.1 meaning means before after job.0),
+    ))
 
 pub part_law : UserPartLaw
 part_law p s slots records ticks told before after (inl refusal) = inl (refusal.0, refusal.1)
@@ -181,9 +172,8 @@ part_law p s slots records ticks told before after (inr ran) =
     let asked : Asked = asked_by slots records ticks in
     let gives : TextsGive asked told.program told.script ran.0 ran.1 = ran.2 in
     let job : JobMeant false Fresh ran.0.program ran.1 status.WriteFault before after = ran.3 in
-    inr (of_bytes told.program gives.0 (λ text is.
-    of_bytes told.script gives.1 (λ script has.
-    by_meanings asked text ran.0
-    (λ meaning. IsUserPart asked text script meaning before after) is
-    (λ first meaning means of. some asked text script ran.0 is ran.1 has.1 first meaning
-    means of before after job.0))))
+    inr (of_bytes told.program gives.0 (λ text is. (
+      (ran.0, is),
+      of_bytes told.script gives.1 (λ script has meaning means.
+          some asked text script ran.0 is ran.1 has.1 meaning means before after job.0),
+    )))

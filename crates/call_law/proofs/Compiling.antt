@@ -1,17 +1,17 @@
--- What the compiler gives is a program of its text, on whose pool its meaning speaks.
+-- What the compiler gives is a program of its text; and the text has one meaning.
 use Rattle.std.proofs.Common.{◌≡◌, ℕ, ◌≤◌, Bool, true, false, List, length, refl, sym, ap, ◌∙◌}
 use Rattle.std.proofs.Common.{subst, arith}
-use Rattle.std.specs.Prelude.{nat_lt, if◌then◌else◌}
+use Rattle.std.specs.Prelude.{map, nat_lt, if◌then◌else◌}
 use Rattle.std.proofs.lemmas.Bool.{ltb-true}
 use Rattle.pmem.specs.Device.{Device, blanked}
 use Rattle.pmem.specs.Played.{PlaysAll}
+use Rattle.pool_layout.specs.declared.limits.Sizes.{Sizes}
 use Rattle.pool_layout.specs.Sizes.{pool_lines}
 use Rattle.pool_map.specs.PoolFits.{words_of}
 use Rattle.args_log.specs.Created.{creation_events}
+use Rattle.c_lexer.specs.declared.token.Placed.{Placed}
 use Rattle.c_lexer.specs.TokenList.{Tokens}
 use Rattle.c_tree.specs.ItemTree.{ItemTree}
-use Rattle.c_tree.specs.Program as tree
-use Rattle.c_tree.specs.Program.{tree_of}
 use Rattle.c_types.specs.Tables.{tables_of}
 use Rattle.c_types.specs.Shapes.{shapes_in, shapes_of}
 use Rattle.ir.specs.declared.function.Ir.{Ir}
@@ -23,13 +23,16 @@ use Rattle.cnvm_session.specs.Pool.{sizes_of}
 use Rattle.compiled_law.specs.Law.{IsCompiledFrom}
 use Rattle.user_law.specs.Run.{TextMeaning}
 use Rattle.text_law.specs.Law.{IsOfText, IsMeaningOf}
+use Rattle.text_law.proofs.Meaning.{text_law}
 use Rattle.session_run.specs.Made.{Created}
 use Rattle.cnvm_compile.specs.declared.asked.Asked.{Asked}
 use Rattle.cnvm_compile.specs.declared.compiling.Compiled.{Compiled}
 use Rattle.cnvm_compile.specs.Compilation.{IsCompiled}
 use Rattle.cnvm_compile.specs.Made.{image_of}
 use Rattle.cnvm_compile.specs.SizesAsked.{within, HasRoot}
+use Rattle.cnvm_compile.proofs.Once.{lists_same}
 use Rattle.call_law.specs.Call.{IsPoolOf}
+use Rattle.call_law.specs.Law.{IsTextMeaning, MeaningLaw}
 
 -- `within` leaves a number within the limits as it is
 within_same : (most n : ℕ) → 1 ≤ n → n ≤ most → within 1 most n ≡ n
@@ -68,17 +71,65 @@ module _ (asked : Asked) (text : List ℕ) (compiled : Compiled)
         },
       )
 
+-- the meaning by one program of a text is that by each
+moved : (text : List ℕ) (first other : Program) (meaning : TextMeaning text)
+    → IsOfText text first other → IsMeaningOf text first meaning → IsMeaningOf text other meaning
+moved text first other meaning of means = record {
+  items = means.items ∙ sym of.items;
+  source = λ program is. means.source program (joined program is);
+  counts = λ program is. means.counts program (joined program is);
+}
+  where
+    joined : (program : Program) → IsOfText text other program → IsOfText text first program
+    joined program is = record {
+      list = is.list;
+      compiled = is.compiled;
+      items = is.items ∙ of.items;
+      lines = is.lines ∙ of.lines;
+      last = is.last ∙ of.last;
+    }
+
+-- two programs of a text have the same declarations and lines
+pub of_text : (text : List ℕ) (given asked : Asked) (first compiled : Compiled)
+    → IsCompiled given text first → IsCompiled asked text compiled
+    → IsOfText text first.program compiled.program
+of_text text given asked first compiled one two =
+    let had = one.accepted.0 in
+    let has = two.accepted.0 in
+    let from = compiled_from asked text compiled two in
+    let same : has.0 ≡ had.0 = lists_same text has.0 had.0 has.1 had.1 in
+    record {
+      list = from.0;
+      compiled = from.1;
+      items = two.only.only first.program.typed had;
+      lines = has.2.lines
+          ∙ ap (λ (l : Tokens). map (λ (placed : Placed). placed.line) l.tokens) same
+          ∙ sym had.2.lines;
+      last = has.2.last ∙ ap (λ (l : Tokens). l.last) same ∙ sym had.2.last;
+    }
+
+pub meaning_law : MeaningLaw
+meaning_law given text is =
+    let from = compiled_from given text is.0 is.1 in
+    let means = text_law text from.0 is.0.program from.1 in
+    (means.0, λ (asked : Asked) (compiled : Compiled) (has : IsCompiled asked text compiled).
+        moved text is.0.program compiled.program means.0
+        (of_text text asked given compiled is.0 has is.1) means.1)
+
+module _ (asked : Asked) (text : List ℕ) (compiled : Compiled)
+    (is : IsCompiled asked text compiled) (meaning : TextMeaning text)
+    (means : IsTextMeaning text meaning) where
+  abbrev s : Sizes
+  s = sizes_of compiled.program
+
   -- the pool that is made for the program is the one of the text
-  pub pool_made : (first : Program) (meaning : TextMeaning text) → IsMeaningOf text first meaning
-      → IsOfText text first program → (d b : Device) → Created program d b
-      → IsPoolOf asked text meaning (sizes_of program) d b
-  pool_made first meaning means of d b made =
-      let items : meaning.items ≡ tree_of program.typed =
-      means.items ∙ ap (λ (x : tree.Program). tree_of x) (sym of.same) in
+  pub pool_made : (d b : Device) → Created compiled.program d b
+      → IsPoolOf asked text meaning s d b
+  pool_made d b made =
       record {
         numbers = is.sizes;
-        root = subst (λ (xs : List ItemTree). HasRoot (shapes_in (tables_of xs)) (sizes_of program))
-            (sym items) is.root;
-        made = subst (λ digest. PlaysAll (blanked (pool_lines (sizes_of program)) d)
-            (creation_events (sizes_of program) digest) b) is.digest made;
+        root = subst (λ (xs : List ItemTree). HasRoot (shapes_in (tables_of xs)) s)
+            (sym (means asked compiled is).items) is.root;
+        made = subst (λ digest. PlaysAll (blanked (pool_lines s) d) (creation_events s digest) b)
+            is.digest made;
       }

@@ -1,13 +1,16 @@
 -- One function counts the log records of the calls of all programs of a tree, by marks that are
 -- exact.
 use Rattle.std.proofs.Common.{◌≡◌, ℕ, zero, suc, ◌+◌, ◌*◌, ℤ, Bool, true, false, List, []}
-use Rattle.std.proofs.Common.{Option, Some, None, refl, sym, subst}
+use Rattle.std.proofs.Common.{Option, Some, None, refl, sym, ap, ◌∙◌, subst}
 use Rattle.std.specs.Prelude.{slice_get}
 use Rattle.std.specs.Option.{option_map_or}
 use Rattle.pool_layout.specs.declared.limits.Sizes.{Sizes}
 use Rattle.pool_map.specs.PoolMap.{PoolMap}
+use Rattle.c_tree.specs.ItemTree.{ItemTree}
 use Rattle.c_tree.specs.Program as tree
-use Rattle.c_types.specs.Shapes.{transactions_of}
+use Rattle.c_tree.specs.Program.{tree_of}
+use Rattle.c_types.specs.Shapes.{transactions_in}
+use Rattle.c_types.specs.Tables.{tables_of}
 use Rattle.ir.specs.declared.function.Ir.{Ir}
 use Rattle.code_meaning.specs.Code.{code_start}
 use Rattle.code_meaning.specs.Deeds.{Deed}
@@ -27,12 +30,14 @@ use Rattle.compiled_law.proofs.Marked.{all_stores}
 use Rattle.compiled_law.proofs.Recording.{they_take}
 use Rattle.user_law.specs.Source.{Logs}
 
--- whether a tree's transaction is marked
-abbrev marks_in : tree.Program → ℕ → Bool
-marks_in typed zero = false
-marks_in typed (suc i) = option_map_or is_marked (slice_get (transactions_of typed) i) false
+-- whether a transaction of these items is marked
+abbrev marks_in : List ItemTree → ℕ → Bool
+marks_in items zero = false
+marks_in items (suc i) =
+    option_map_or is_marked (slice_get (transactions_in (tables_of items).functions) i) false
 
-marks_are : (program : Program) (tx : ℕ) → rolls_back_of program tx ≡ marks_in program.typed tx
+marks_are : (program : Program) (tx : ℕ)
+    → rolls_back_of program tx ≡ marks_in (tree_of program.typed) tx
 marks_are program zero = refl
 marks_are program (suc i) = refl
 
@@ -40,12 +45,11 @@ marks_are program (suc i) = refl
 abbrev call_deeds : Ir → Sizes → PoolMap → List ℤ → Option ℕ → List Deed
 call_deeds ir s pool args o = option_map_or (deeds_in ir s.ticks pool args) o []
 
--- n words take a record in the call's run, by the tree alone
-abbrev CountsBy : Bool → tree.Program → Sizes → PoolMap → Pending → ℕ → Type 0
-CountsBy rolls typed s pool call n =
-    TakeRecords rolls (lowered typed).functions []
-    (stores_in s (call_deeds (lowered typed) s pool call.args
-    (entry_in call.tx (lowered typed).functions))) n
+-- n words take a record in the call's run, by the code alone
+abbrev CountsBy : Bool → Ir → Sizes → PoolMap → Pending → ℕ → Type 0
+CountsBy rolls ir s pool call n =
+    TakeRecords rolls ir.functions []
+    (stores_in s (call_deeds ir s pool call.args (entry_in call.tx ir.functions))) n
 
 module _ (marks : MarkTable) (typed : tree.Program)
     (exact : table.IsExact (lowered typed).functions marks) where
@@ -66,15 +70,18 @@ module _ (marks : MarkTable) (typed : tree.Program)
 
   abbrev pub tree_logs : Sizes → Logs
   tree_logs s pool call =
-      counted (marks_in typed call.tx) s pool call.args (entry_in call.tx ir.functions)
+      counted (marks_in (tree_of typed) call.tx) s pool call.args (entry_in call.tx ir.functions)
 
-  pub tree_counts : (program : Program) → program.typed ≡ typed → (pool : PoolMap)
-      (call : Pending) → LogsBy (rolls_back_of program call.tx) program pool call.tx call.args
+  pub tree_counts : (program : Program) → tree_of program.typed ≡ tree_of typed
+      → lowered program.typed ≡ ir → (pool : PoolMap) (call : Pending)
+      → LogsBy (rolls_back_of program call.tx) program pool call.tx call.args
       (tree_logs (sizes_of program) pool call)
-  tree_counts program same pool call =
-      subst (λ (rolls : Bool). CountsBy rolls program.typed (sizes_of program) pool call
-      (tree_logs (sizes_of program) pool call)) (sym (marks_are program call.tx))
-      (subst (λ (x : tree.Program). CountsBy (marks_in x call.tx) x (sizes_of program) pool call
-      (tree_logs (sizes_of program) pool call)) (sym same)
-      (counted_is (marks_in typed call.tx) (sizes_of program) pool call.args
+  tree_counts program items code pool call =
+      let s : Sizes = sizes_of program in
+      let n : ℕ = tree_logs s pool call in
+      let same : rolls_back_of program call.tx ≡ marks_in (tree_of typed) call.tx =
+      marks_are program call.tx ∙ ap (λ (xs : List ItemTree). marks_in xs call.tx) items in
+      subst (λ (rolls : Bool). CountsBy rolls (lowered program.typed) s pool call n) (sym same)
+      (subst (λ (x : Ir). CountsBy (marks_in (tree_of typed) call.tx) x s pool call n) (sym code)
+      (counted_is (marks_in (tree_of typed) call.tx) s pool call.args
       (entry_in call.tx ir.functions)))

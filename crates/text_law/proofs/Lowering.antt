@@ -381,15 +381,15 @@ module _ (t : Tables) (one two : Program) (node : ℕ → ℕ)
   copies_same : (body : Statements) (n : ℕ) (xs : List ParameterTree) (p : ℕ)
       → parameters_code a body n xs p ≡ parameters_code b body n xs p
   copies_same body n [] p = refl
-  copies_same body n (x ∷ xs) p = by_test (is_assigned x.name.text body)
+  copies_same body n (x ∷ xs) p =
+      by_test (is_assigned x.name.text body) (copies_same body (suc n) xs (suc p))
+      (copies_same body (suc n) xs p)
     where
-      by_test : (is : Bool) →
-          (if is then Copy (node (suc p)) n ∷ parameters_code a body (suc n) xs (suc p)
-          else parameters_code a body (suc n) xs p)
-          ≡ (if is then Copy (node (suc p)) n ∷ parameters_code b body (suc n) xs (suc p)
-          else parameters_code b body (suc n) xs p)
-      by_test true = rest _ _ _ (copies_same body (suc n) xs (suc p))
-      by_test false = copies_same body (suc n) xs p
+      by_test : (is : Bool) {c c' d d' : Code} → c ≡ c' → d ≡ d'
+          → (if is then Copy (node (suc p)) n ∷ c else d)
+          ≡ (if is then Copy (node (suc p)) n ∷ c' else d')
+      by_test true e f = rest _ _ _ e
+      by_test false e f = f
 
   given_same : (body : Statements) (n : ℕ) (xs : List ParameterTree) (p : ℕ) (v : Variables)
       → variables_after_parameters a body n xs p v ≡ variables_after_parameters b body n xs p v

@@ -1,12 +1,14 @@
 -- A compiled text has one meaning, by which each session on a new pool is a run as its user sees it.
 use Rattle.std.proofs.Common.{◌≡◌, ℕ, List, length, refl, ap, ◌∙◌, subst}
+use Rattle.std.specs.Prelude.{slice_get}
+use Rattle.std.specs.Option.{option_map_or}
 use Rattle.std.specs.List.{AllByRecursion}
 use Rattle.std.proofs.lemmas.List.{length-map}
 use Rattle.pmem.specs.Device.{Device}
 use Rattle.c_lexer.specs.declared.token.Placed.{Placed}
 use Rattle.c_lexer.specs.TokenList.{Tokens}
-use Rattle.c_tree.specs.Program as tree
-use Rattle.c_tree.specs.Program.{tree_of}
+use Rattle.c_tree.specs.ItemTree.{ItemTree}
+use Rattle.c_tree.specs.Program.{tree_of, source_line}
 use Rattle.rules_law.proofs.typed.Laws.{accepted}
 use Rattle.pm_machine.specs.declared.image.ImageParts.{ImageParts}
 use Rattle.cnvm_script.specs.declared.command.Command.{Command}
@@ -31,6 +33,7 @@ use Rattle.user_law.proofs.Keeping.{keeps_law}
 use Rattle.user_law.proofs.Stepping.{ran_law}
 use Rattle.text_law.specs.Law.{IsOfText, IsMeaningOf, TextLaw, UserRunLaw}
 use Rattle.text_law.proofs.Counting.{tree_logs, tree_counts}
+use Rattle.text_law.proofs.Lowering.{lowered_same}
 
 module _ (text : List ℕ) (list : Tokens) (first : Program)
     (compiled : IsCompiledFrom text list first) where
@@ -53,10 +56,19 @@ module _ (text : List ℕ) (list : Tokens) (first : Program)
   source_is : (program : Program) → IsOfText text first program →
       source_in program (meaning.logs (sizes_of program)) ≡ source_with meaning (sizes_of program)
   source_is program is =
-      ap (λ (x : tree.Program). source_of (tree_of x) (length x.lines) (sizes_of program)
-      (meaning.logs (sizes_of program))) is.same
+      ap (λ (xs : List ItemTree). source_of xs (length program.typed.lines) (sizes_of program)
+      (meaning.logs (sizes_of program))) is.items
       ∙ ap (λ (n : ℕ). source_of (tree_of first.typed) n (sizes_of program)
-      (meaning.logs (sizes_of program))) tokens_are
+      (meaning.logs (sizes_of program)))
+      (ap (λ (ls : List ℕ). length ls) is.lines ∙ tokens_are)
+
+  lines_are : (program : Program) → IsOfText text first program → (place : ℕ)
+      → source_line program.typed place ≡ source_line first.typed place
+  lines_are program is place =
+      ap (λ (ls : List ℕ). option_map_or (λ (line : ℕ). line) (slice_get ls place)
+      program.typed.last) is.lines
+      ∙ ap (λ (n : ℕ). option_map_or (λ (line : ℕ). line) (slice_get first.typed.lines place) n)
+      is.last
 
   pub text_means : (m : TextMeaning text) × IsMeaningOf text first m
   text_means = (
@@ -65,7 +77,8 @@ module _ (text : List ℕ) (list : Tokens) (first : Program)
       items = refl;
       source = source_is;
       counts = λ program is. record {
-        logged = tree_counts compiled.marks first.typed compiled.exact program is.same;
+        logged = tree_counts compiled.marks first.typed compiled.exact program is.items
+            (lowered_same program.typed first.typed is.items (lines_are program is));
         most = ap (λ (x : ImageParts). x.most) is.compiled.made;
       };
     },

@@ -19,13 +19,16 @@ use Rattle.compiled_law.specs.Law.{IsCompiledFrom}
 use Rattle.user_law.specs.Run.{TextMeaning, source_with, IsUserRun}
 use Rattle.user_law.specs.Seen.{source_in, HasCounts}
 
--- a program of the text with the tree of the first one, for a pool of any sizes
+-- a program of the text, with the declarations and the lines of the first one, for a pool of any
+-- sizes
 pub record IsOfText (text : List ℕ) (first program : Program) : Type 0 where
   pub list : Tokens
   pub compiled : IsCompiledFrom text list program
-  pub same : program.typed ≡ first.typed
+  pub items : tree_of program.typed ≡ tree_of first.typed
+  pub lines : program.typed.lines ≡ first.typed.lines
+  pub last : program.typed.last ≡ first.typed.last
 
--- the meaning is that of each program of the text and the tree
+-- the meaning is that of each program of the text with these declarations
 pub record IsMeaningOf (text : List ℕ) (first : Program) (meaning : TextMeaning text) :
     Type 0 where
   pub items : meaning.items ≡ tree_of first.typed
