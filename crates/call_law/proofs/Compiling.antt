@@ -111,10 +111,12 @@ of_text text given asked first compiled one two =
 pub meaning_law : MeaningLaw
 meaning_law given text is =
     let from = compiled_from given text is.0 is.1 in
-    let means = text_law text from.0 is.0.program from.1 in
-    (means.0, λ (asked : Asked) (compiled : Compiled) (has : IsCompiled asked text compiled).
-        moved text is.0.program compiled.program means.0
-        (of_text text asked given compiled is.0 has is.1) means.1)
+    let means = text_law text from.0 is.0.program from.1 in (
+      means.0,
+      λ (asked : Asked) (compiled : Compiled) (has : IsCompiled asked text compiled).
+          moved text is.0.program compiled.program means.0
+          (of_text text given asked is.0 compiled is.1 has) means.1,
+    )
 
 module _ (asked : Asked) (text : List ℕ) (compiled : Compiled)
     (is : IsCompiled asked text compiled) (meaning : TextMeaning text)
