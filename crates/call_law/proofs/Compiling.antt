@@ -76,12 +76,12 @@ moved : (text : List ℕ) (first other : Program) (meaning : TextMeaning text)
     → IsOfText text first other → IsMeaningOf text first meaning → IsMeaningOf text other meaning
 moved text first other meaning of means = record {
   items = means.items ∙ sym of.items;
-  source = λ program is. means.source program (joined program is);
-  counts = λ program is. means.counts program (joined program is);
+  source = λ q is. means.source q (joined q is);
+  counts = λ q is. means.counts q (joined q is);
 }
   where
-    joined : (program : Program) → IsOfText text other program → IsOfText text first program
-    joined program is = record {
+    joined : (q : Program) → IsOfText text other q → IsOfText text first q
+    joined q is = record {
       list = is.list;
       compiled = is.compiled;
       items = is.items ∙ of.items;

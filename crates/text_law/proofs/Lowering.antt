@@ -1,6 +1,6 @@
 -- Trees with the same items and the same lines have the same code.
-use Rattle.std.proofs.Common.{◌≡◌, ℕ, suc, ◌+◌, ℤ, pos, negsuc, Bool, true, false, List, [], ◌∷◌}
-use Rattle.std.proofs.Common.{◌++◌, Option, Some, None, refl, sym, ap, ◌∙◌}
+use Rattle.std.proofs.Common.{◌≡◌, ℕ, suc, ◌+◌, ℤ, pos, Bool, true, false, List, [], ◌∷◌}
+use Rattle.std.proofs.Common.{◌++◌, Option, Some, None, refl, ap, ◌∙◌}
 use Rattle.std.specs.Prelude.{map, if◌then◌else◌, length}
 use Rattle.nvm_base.specs.declared.op.BinOp.{BinOp}
 use Rattle.nvm_base.specs.declared.op.BinOp.TheVariants as op
@@ -17,7 +17,7 @@ use Rattle.c_types.specs.Expressions.{type_of}
 use Rattle.c_types.specs.Shapes.{shapes_in}
 use Rattle.ir.specs.declared.instruction.Target.{Target}
 use Rattle.ir.specs.declared.instruction.Instruction.{Instruction}
-use Rattle.ir.specs.declared.instruction.Instruction.TheVariants.{Const, Copy, Bin, Jump, Branch}
+use Rattle.ir.specs.declared.instruction.Instruction.TheVariants.{Copy, Bin, Jump, Branch}
 use Rattle.ir.specs.declared.instruction.Instruction.TheVariants.{Load, Store, New, Free, Call}
 use Rattle.ir.specs.declared.instruction.Instruction.TheVariants.{Return, Tick}
 use Rattle.ir.specs.declared.function.IrFunction.{IrFunction}
@@ -33,11 +33,11 @@ use Rattle.lower.specs.Lowers.{Context, exp_end, target_end, arguments_end, reg_
 use Rattle.lower.specs.Lowers.{target_of, truth_code, form_code, exp_code, target_code}
 use Rattle.lower.specs.Lowers.{arguments_code, or_end, or_reg, or_code, set_code, update_code}
 use Rattle.lower.specs.Lowers.{update_operation, step_operation, simple_code, initial_code}
-use Rattle.lower.specs.Lowers.{variables_after_declaration, first_end, first_code}
+use Rattle.lower.specs.Lowers.{first_end, first_code}
 use Rattle.lower.specs.Lowers.{variables_after_first, third_end, third_code, variables_after}
 use Rattle.lower.specs.Lowers.{stmt_end, statements_end, stmt_code, statements_code}
 use Rattle.lower.specs.Program.{parameters_end, parameters_code, variables_after_parameters}
-use Rattle.lower.specs.Program.{no_variables, function_code, context_at, function_at}
+use Rattle.lower.specs.Program.{no_variables, function_code}
 use Rattle.lower.specs.Program.{lowered_function, lowered}
 
 abbrev Code : Type 0
