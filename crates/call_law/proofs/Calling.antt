@@ -1,5 +1,5 @@
 -- A call that the clause `source` holds of is a run as its user sees it, or the first part of one.
-use Rattle.std.proofs.Common.{◌≡◌, inl, inr, ℕ, Bool, true, false, List, [], ◌∷◌, ◌++◌, length}
+use Rattle.std.proofs.Common.{◌≡◌, inl, inr, ℕ, Bool, true, false, List, [], ◌∷◌, ◌++◌}
 use Rattle.std.proofs.Common.{Option, Some, None, Ok, refl, sym, ap, ◌∙◌, subst}
 use Rattle.std.specs.Prelude.{flat_map}
 use Rattle.std.specs.List.{AllByRecursion}
@@ -19,7 +19,6 @@ use Rattle.session_law.proofs.Scripts.{script_words}
 use Rattle.user_law.specs.Run.{TextMeaning, IsUserRun}
 use Rattle.text_law.specs.Law.{IsOfText}
 use Rattle.text_law.proofs.Meaning.{seen_on, run_law}
-use Rattle.session_run.specs.declared.status.Status.{Status}
 use Rattle.session_run.specs.declared.status.Status.TheVariants as status
 use Rattle.cnvm_compile.specs.declared.asked.Asked.{Asked}
 use Rattle.cnvm_compile.specs.declared.compiling.Compiled.{Compiled}
