@@ -1,5 +1,5 @@
--- What a stage refuses is refused of the text; and the refusal of a tree that breaks a rule is that
--- of every tree of the text.
+-- What a stage refuses is refused of the text; the refusal of a tree that breaks a rule is that of
+-- every tree of the text; and the one tree of its tokens is that of the text.
 use Rattle.std.proofs.Common.{◌≡◌, ℕ, List, Option, Ok, length, slice_get, option_map, sym, ap, ◌∙◌}
 use Rattle.std.proofs.Common.{subst}
 use Rattle.std.specs.Option.{option_map_or}
@@ -16,7 +16,7 @@ use Rattle.c_types.specs.Fault.{fault_of, refusal}
 use Rattle.cnvm_compile.specs.declared.front_end.ProgramFault.{ProgramFault}
 use Rattle.cnvm_compile.specs.declared.front_end.ProgramFault.TheVariants.{Lex, Constants}
 use Rattle.cnvm_compile.specs.declared.front_end.ProgramFault.TheVariants.{Parse, Types, NoMemory}
-use Rattle.cnvm_compile.specs.FrontEnd.{IsTree, RefusesText}
+use Rattle.cnvm_compile.specs.FrontEnd.{IsTree, IsOnlyTreeOf, RefusesText}
 use Rattle.cnvm_compile.specs.inside.FrontEnd.{IsOnlyTree, RefusesConstants}
 use Rattle.cnvm_compile.specs.inside.FrontEnd.{RefusesList, RefusesTree}
 use Rattle.cnvm_compile.proofs.Once.{lists_same}
@@ -76,4 +76,11 @@ text_refused text list tree (Lex fault) left is only told = absurd told
 text_refused text list tree (Constants fault) left is only told = absurd told
 text_refused text list tree (Parse fault line) left is only told = absurd told
 
-pub ruleset refused = (list_refused, text_refused)
+pub only_tree : (text : List ℕ) (list : Tokens) (tree : Program) → LeavesTokens text list
+    → IsOnlyTree list tree → IsOnlyTreeOf text tree
+only_tree text list tree left only = record {
+  only = λ other has. only other
+      (subst (λ (l : Tokens). IsTree l other) (lists_same text has.0 list has.1 left) has.2);
+}
+
+pub ruleset refused = (list_refused, text_refused, only_tree)

@@ -8,17 +8,18 @@ use Rattle.clobber_pass.specs.Logged.{IsExact}
 use Rattle.session_law.specs.Agrees.{Agrees}
 use Rattle.cnvm_compile.specs.declared.asked.Asked.{Asked}
 use Rattle.cnvm_compile.specs.declared.compiling.Compiled.{Compiled}
-use Rattle.cnvm_compile.specs.FrontEnd.{AcceptsText}
+use Rattle.cnvm_compile.specs.FrontEnd.{AcceptsText, IsOnlyTreeOf}
 use Rattle.cnvm_compile.specs.Made.{image_of}
 use Rattle.cnvm_compile.specs.SizesAsked.{HasRoot, HasSizes}
 use Rattle.cnvm_session.specs.Pool.{sizes_of}
 
--- The program of a text: its tree, which breaks no rule; the code of the tree, without logs; exact
--- marks of the code's stores; the image of the code with the logs of these marks, for a pool of the
--- sizes asked for and of the root's words; and the digest of the text. The image agrees with the
--- source.
+-- The program of a text: its one tree, which breaks no rule; the code of the tree, without logs;
+-- exact marks of the code's stores; the image of the code with the logs of these marks, for a pool
+-- of the sizes asked for and of the root's words; and the digest of the text. The image agrees with
+-- the source.
 pub record IsCompiled (asked : Asked) (text : List ℕ) (compiled : Compiled) : Type 0 where
   pub accepted : AcceptsText text compiled.program.typed
+  pub only : IsOnlyTreeOf text compiled.program.typed
   pub ir : compiled.ir ≡ lowered compiled.program.typed
   pub well_formed : IsWellFormed compiled.ir
   pub marks : IsExact compiled.ir.functions compiled.marks

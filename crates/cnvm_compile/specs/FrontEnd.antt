@@ -31,6 +31,10 @@ pub record IsTree (list : Tokens) (tree : Program) : Type 0 where
 abbrev pub HasTree : List ℕ → Program → Type 0
 HasTree text tree = (list : Tokens) × LeavesTokens text list × IsTree list tree
 
+-- each tree of the text has these declarations
+pub record IsOnlyTreeOf (text : List ℕ) (tree : Program) : Type 0 where
+  pub only : (other : Program) → HasTree text other → tree_of tree ≡ tree_of other
+
 -- the text has this tree, and it breaks no rule
 abbrev pub AcceptsText : List ℕ → Program → Type 0
 AcceptsText text tree = HasTree text tree × (breaks tree ≡ [])

@@ -7,7 +7,7 @@ ghost use Rattle.c_lexer.specs.TokenList.{line_at};
 ghost use Rattle.c_constants.specs.Left.{LeavesTokens};
 ghost use Rattle.c_constants.specs.Passes as passes;
 ghost use Rattle.c_types.specs.Fault.{breaks};
-ghost use Rattle.cnvm_compile.specs.FrontEnd.{IsTree, AcceptsText, RefusesText};
+ghost use Rattle.cnvm_compile.specs.FrontEnd.{IsTree, IsOnlyTreeOf, AcceptsText, RefusesText};
 ghost use Rattle.cnvm_compile.specs.inside.FrontEnd.{IsOnlyTree, RefusesConstants};
 ghost use Rattle.cnvm_compile.specs.inside.FrontEnd.{RefusesList, RefusesTree};
 
@@ -37,6 +37,7 @@ pub enum ProgramFault {
 #[tactic(auto, using(crate::proofs::Trees::refused))]
 pub(crate) fn typed_of(alloc: Global, text: &[u8]) -> Result<Typed, ProgramFault>
     ensures accepted { IfOk result (λ typed. AcceptsText text.now typed) }
+    ensures only { IfOk result (λ typed. IsOnlyTreeOf text.now typed) }
     ensures refused { IfErr result (λ fault. RefusesText text.now fault) }
 {
     let list = list_of(alloc, text)?;

@@ -2,7 +2,7 @@ use Rattle.std.proofs.Common.{rules, ◌≡◌, length}
 use Rattle.pool_layout.specs.Digest.{digest_of}
 use Rattle.c_types.specs.Shapes.{shapes_of}
 use Rattle.lower.specs.Program.{lowered}
-use Rattle.cnvm_compile.specs.FrontEnd.{AcceptsText}
+use Rattle.cnvm_compile.specs.FrontEnd.{AcceptsText, IsOnlyTreeOf}
 use Rattle.cnvm_compile.specs.Made.{image_of}
 use Rattle.cnvm_compile.specs.SizesAsked.{HasRoot, HasSizes}
 use Rattle.cnvm_compile.proofs.Agreeing.{agreed}
@@ -17,6 +17,7 @@ returns-in-Ok-clause-compiled c =
     let marks = c.in-Ok.compiled.marks in
     let asked = c.args.asked in
     let accepted : AcceptsText c.args.text.now p.typed = search rules in
+    let only : IsOnlyTreeOf c.args.text.now p.typed = search rules in
     let is : ir ≡ lowered p.typed = search rules in
     let root : HasRoot (shapes_of p.typed) (sizes_of p) = search rules in
     let code : p.image.parts ≡ image_of marks ir (sizes_of p) (length p.typed.lines) =
@@ -24,6 +25,7 @@ returns-in-Ok-clause-compiled c =
     let sizes : HasSizes asked.slots asked.records asked.ticks (sizes_of p) = search rules in
     let digest : p.digest ≡ digest_of c.args.text.now = search rules in record {
       accepted = accepted;
+      only = only;
       ir = is;
       well_formed = made.well_formed;
       marks = made.marks;
