@@ -1,5 +1,5 @@
-//! Small programs of three-address code, run on the machine: each call with its end, its logged
-//! stores and words of the heap afterwards.
+//! Small programs of three-address code, run on the machine: each call with its end, its log
+//! records and words of the heap afterwards.
 
 ghost use Rattle.std.specs.Prelude.{◌≡◌, ◌<◌};
 
@@ -7,7 +7,7 @@ use code_check::is_well_formed;
 use codegen::emit;
 use ir::{Instruction, Instructions, Ir, IrFunction, IrFunctions, Target};
 use nvm_base::{BinOp, Registers, Steps, Text};
-use pm_machine::{Image, Machine, RunAnswer};
+use pm_machine::{Image, Machine, Policy, RunAnswer};
 use pmem::{Pmem, PmemWork, SimPmem};
 use pool_layout::{Sizes, heap_start, pool_lines};
 use pool_map::{FieldShape, FieldShapes, Shapes, StructShape, StructShapes, TrapKind};
@@ -236,7 +236,7 @@ fn program(alloc: Global) -> Result<Ir, AllocError> {
     })
 }
 
-/// A call's answer and its number of logged stores.
+/// A call's answer and its number of log records.
 fn called_from<L: Ledger>(
     alloc: Global,
     image: &Image,
@@ -254,7 +254,7 @@ fn called_from<L: Ledger>(
     }
     let mut machine = Machine::new(alloc, image, tx, args)?;
     let mut steps = Steps::<L>::new(blank);
-    let answer = machine.run(image, dev, &mut steps);
+    let answer = machine.run(image, Policy::EndPool, dev, &mut steps);
     Ok(Some((answer, machine.logged())))
 }
 
@@ -291,8 +291,8 @@ fn words(dev: &SimPmem, sizes: &Sizes) -> [i64; 8] {
     ]
 }
 
-/// A call's transaction and arguments, its answer, its logged stores, and words of the heap after
-/// it it.
+/// A call's transaction and arguments, its answer, its log records, and words of the heap after
+/// it.
 type Row = (u64, [i64; 2], RunAnswer, u64, [i64; 8]);
 
 const ROWS: [Row; 19] = [
@@ -422,7 +422,7 @@ const ROWS: [Row; 19] = [
         10,
         [0, 0],
         RunAnswer::Halted(201),
-        3,
+        2,
         [-2, 9, 2, 1, 0, 0, 1, 0],
     ),
 ];
