@@ -5,8 +5,8 @@
 #![tactic(auto)]
 
 ghost use Rattle.user_law.specs.Stays.{StaysLaw, UserWholeLaw, UserKeptLaw, HeadLaw, RunHeadLaw};
-ghost use Rattle.user_law.specs.Ends.{UndisturbedLaw, QuietScriptLaw, CallEndsLaw};
-ghost use Rattle.user_law.specs.Ends.{RecoveryEndsLaw};
+ghost use Rattle.user_law.specs.Ends.{UserUninterruptedLaw, QuietScriptLaw, UserCallEndsLaw};
+ghost use Rattle.user_law.specs.Ends.{UserRecoveryEndsLaw};
 ghost use Rattle.user_law.specs.Seen.{KeepsLaw, PlayedLaw, MeantLaw, SealKeptLaw, StepLaw, RanLaw};
 
 /// Of each chain, whatever the device and the machine are: once an image had the seal of a call,
@@ -24,10 +24,10 @@ pub fn chain_law()
 /// recovery ends, unless memory is wanting, a number is at its end, or a pick doesn't fit. It does
 /// nothing.
 pub fn end_law()
-    ensures undisturbed { UndisturbedLaw }
+    ensures uninterrupted { UserUninterruptedLaw }
     ensures script { QuietScriptLaw }
-    ensures call { CallEndsLaw }
-    ensures recovery { RecoveryEndsLaw }
+    ensures call { UserCallEndsLaw }
+    ensures recovery { UserRecoveryEndsLaw }
 {}
 
 /// Each step of a session of the machine is one of the user's, and so is each session. It does

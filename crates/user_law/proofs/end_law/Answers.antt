@@ -1,9 +1,9 @@
-use Rattle.user_law.proofs.Ending.{undisturbed_law, quiet_script_law, call_ends_law}
+use Rattle.user_law.proofs.Ending.{uninterrupted_law, quiet_script_law, call_ends_law}
 use Rattle.user_law.proofs.Ending.{recovery_ends_law}
 use Rattle.user_law.proofs.end_law.Goals as goal
 
-pub returns-clause-undisturbed : goal.returns-clause-undisturbed
-returns-clause-undisturbed c = undisturbed_law
+pub returns-clause-uninterrupted : goal.returns-clause-uninterrupted
+returns-clause-uninterrupted c = uninterrupted_law
 
 pub returns-clause-script : goal.returns-clause-script
 returns-clause-script c = quiet_script_law
