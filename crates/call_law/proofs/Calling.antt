@@ -131,7 +131,8 @@ module _ (asked : Asked) (text script : List ℕ) (compiled : Compiled)
       ran_append program (super_words program) part.first (part.next ∷ []) part.answers
       (part.answer ∷ []) (fresh_moment program b before.steps) part.before part.last part.ran
       (part.last, part.step, refl) in
-      let seen = seen_on (means asked compiled is) of is.agrees done (part.answers ++ part.answer ∷ []) b
+      let seen = seen_on (means asked compiled is) of is.agrees done
+      (part.answers ++ part.answer ∷ []) b
       before.steps part.last words r.2 chain in
       record {
         sizes = sizes_of program;

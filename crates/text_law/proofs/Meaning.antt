@@ -1,4 +1,4 @@
--- A compiled text has one meaning, by which each session on a new pool is a run as its user sees it.
+-- A compiled text has one meaning. By it each session on a new pool is a run as its user sees it.
 use Rattle.std.proofs.Common.{◌≡◌, ℕ, List, length, refl, ap, ◌∙◌, subst}
 use Rattle.std.specs.Prelude.{slice_get}
 use Rattle.std.specs.Option.{option_map_or}

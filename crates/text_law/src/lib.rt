@@ -1,6 +1,6 @@
-//! What a program's text means to its user, once for all of its runs: its declarations, and how many
-//! log records each call takes. It stands on `user_law` and `compiled_law`. Its one contract: the
-//! laws of `specs/Law.antt`, each a clause of a function that does nothing.
+//! What a program's text means to its user, once for all of its runs: its declarations, and how
+//! many log records each call takes. It stands on `user_law` and `compiled_law`. Its one contract:
+//! the laws of `specs/Law.antt`, each a clause of a function that does nothing.
 #![tactic(auto)]
 
 ghost use Rattle.text_law.specs.Law.{TextLaw, UserRunLaw};

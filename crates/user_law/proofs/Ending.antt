@@ -256,7 +256,8 @@ module _ (p : Source) (s t : UserState) (image : Words) (d b : Device) (es : Lis
         → StaysWith why s a t → UserEndsAs a t
     stays why leaves is = ends_as a why t s is.0 is.1 (leaves s ready)
 
-    with_ends : (fits : Bool) (call : Pending) → UserCallsWith fits p s image call a t → UserEndsAs a t
+    with_ends : (fits : Bool) (call : Pending) → UserCallsWith fits p s image call a t
+        → UserEndsAs a t
     with_ends true call is = run_ends call a played is
     with_ends false call is = stays answer.RefusedArity (λ u is. is) is
 

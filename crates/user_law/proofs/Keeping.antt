@@ -72,13 +72,15 @@ module _ (program : Program) (logs : Logs) (super : Words) (d : Device) (s : Use
     ended : (marked : Bool) (owes : OwesBy marked program super call d (plain s)) (image : Words)
         (end : End) →
         IsEnd (pool_with program.image super) (call_of s.done call.tx call.args) owes.heap
-        (heap_end owes.heap owes.effects) (result_of (policy_of marked) s.last end) image → Cut image
+        (heap_end owes.heap owes.effects) (result_of (policy_of marked) s.last end) image
+        → Cut image
     ended marked owes image (Halted v) is = inr (inl is.seal_is)
     ended true owes image (Trapped kind) is = inr (inl is.seal_is)
     ended false owes image (Trapped kind) is =
         inr (inr (has_mark (image MARK) (trap_number kind) is.0 is.1))
 
-    cut_one : (marked : Bool) (owes : OwesBy marked program super call d (plain s)) (image : Words) →
+    cut_one : (marked : Bool) (owes : OwesBy marked program super call d (plain s))
+        (image : Words) →
         IsCut (pool_with program.image super) (call_of s.done call.tx call.args)
         (E (policy_of marked) owes.effects) (W owes.effects) owes.heap
         (heap_end owes.heap owes.effects) s.last (result_of (policy_of marked) s.last owes.end)
