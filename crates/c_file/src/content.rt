@@ -1,5 +1,6 @@
 //! What an image may hold, and its first fault.
 
+/// The part of the C file that checks what an image holds.
 pub const CONTENT: &str = r#"/* -- What an image may hold. */
 
 /* the least word of record i that breaks a rule, or 0; *gap is set at the first invalid one */

@@ -1,5 +1,6 @@
 //! The three events.
 
+/// The part of the C file that stores, flushes and fences.
 pub const EVENTS: &str =
     r#"/* -- Events. What reaches the pool's words goes through cn_store, cn_flush and cn_fence. */
 

@@ -1,5 +1,6 @@
 //! Opening, creating and closing a pool.
 
+/// The part of the C file that makes, opens and locks files.
 pub const FILES: &str =
     r#"/* -- Files. A function that fails gives -1 or NULL, with what was wrong in *fault. */
 

@@ -1,5 +1,6 @@
 //! Free slots, heap words, records and dirty lines.
 
+/// The part of the C file that finds and frees slots.
 pub const HEAP: &str = r#"/* -- Free slots, as three levels of bits. Slots are counted from 1. */
 
 static inline void cn_slot_freed(struct cn_pool *p, uint64_t slot) {

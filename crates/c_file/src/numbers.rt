@@ -1,5 +1,6 @@
 //! Operations on words that C does not have.
 
+/// The part of the C file that has the numbers of places, lines and limits.
 pub const NUMBERS: &str =
     r#"/* -- Numbers. Sums, products, bits and equality are C's own on uint64_t. A word is negative
    where its bit 63 is set; the magnitude of -2^63 is 2^63, so its quotients need no case. */

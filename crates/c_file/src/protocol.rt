@@ -1,5 +1,6 @@
 //! A call and a recovery.
 
+/// The part of the C file that seals, runs, retires and recovers a call.
 pub const PROTOCOL: &str = r#"/* -- The protocol: a call is sealed, run and retired. */
 
 /* runs the code of a transaction, at the end of this file */

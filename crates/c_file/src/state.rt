@@ -1,5 +1,6 @@
 //! The layout of a pool, and the state of one that is open.
 
+/// The part of the C file that declares a pool's state.
 pub const STATE: &str = r#"
 /* ------------------------------------------------------------------------------ the runtime
    Words are uint64_t, in two's complement. There is no signed arithmetic, and each index is

@@ -1,5 +1,6 @@
 //! The types of answers and faults, for every caller.
 
+/// The types that each emitted header declares, once for all of them.
 pub const TYPES: &str = r#"#ifndef CNVM_ANSWER
 #define CNVM_ANSWER
 #include <stdint.h>

@@ -4,7 +4,8 @@
 --
 -- What a function of the runtime does to the pool's words is given here, and so is its result;
 -- that its own text does so isn't said here.
-use Rattle.std.specs.Prelude.{ℕ, ◌+◌, ◌-◌, ◌*◌, ◌%◌, ◌^◌, ◌==◌, List, [], ◌∷◌, ◌++◌, length, map, pos}
+use Rattle.std.specs.Prelude.{ℕ, ◌+◌, ◌-◌, ◌*◌, ◌%◌, ◌^◌, ◌==◌, List, [], ◌∷◌, ◌++◌, length, map}
+use Rattle.std.specs.Prelude.{pos}
 use Rattle.std.specs.Prelude.{slice_get, slice_index_or, Option, Some, None, Bool, not, ◌&&◌}
 use Rattle.std.specs.Prelude.{if◌then◌else◌, nat_lt, bit_and, bit_or, bit_xor}
 use Rattle.std.specs.Int.{w64, cast_signed}

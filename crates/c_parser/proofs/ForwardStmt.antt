@@ -45,7 +45,7 @@ use Rattle.c_parser.proofs.Forward.{expression_runs, arguments_run, new_run, exp
 use Rattle.c_parser.proofs.Forward.{value_enters}
 use Rattle.c_parser.proofs.Finish.{else_step}
 
--- a token whose step is known from the wants that it enters
+-- a token that opens a construct: the parser puts what must still come in it on the stack
 pub enters : (ts : List Placed) (i around : ℕ) (o : OpenParts) (s next : List Want)
     (m : Kind → Option (List Want)) (t : Kind)
     → parser_step s (kind_at ts i) ≡ m (kind_at ts i) → kind_at ts i ≡ t → IsToken t

@@ -22,6 +22,8 @@ use c_tree::item::{Field, Function, Length, Parameter, RootDecl};
 use c_tree::stmt::TypeName;
 use std::alloc::{AllocError, Global};
 
+/// Keeps the first rule that is broken in the declarations of structs, if it comes before the one
+/// that is known.
 #[tactic(auto, using(crate::proofs::Told::told_append))]
 pub fn structs(program: &Program<'_>, structs: &[Layout<'_>], least: &mut Option<Broken>)
     ensures { least.new ≡ least_from least.old
@@ -128,6 +130,8 @@ fn root_at(program: &Program<'_>, at: u64, root: &RootDecl, least: &mut Option<B
     expect(least, at == 0, root.place, Rule::Twice);
 }
 
+/// Keeps the first rule that is broken in the declarations of functions, if it comes before the
+/// one that is known.
 #[tactic(auto, using(crate::proofs::Told::told_append))]
 pub fn functions<'a>(
     alloc: Global,

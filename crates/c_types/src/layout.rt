@@ -34,6 +34,7 @@ impl<'a> Model for Layout<'a> {
 }
 
 impl<'a> Layout<'a> {
+    /// A struct's definition with the numbers of words of its fields, taken together.
     pub fn new(alloc: Global, definition: &'a StructDef) -> Result<Self, AllocError>
         ensures { IfOk result (λ l. l ≡ struct_tree definition.now) }
     {
@@ -46,18 +47,21 @@ impl<'a> Layout<'a> {
         })
     }
 
+    /// The struct's name.
     pub fn name(&self) -> &'a Name
         ensures { ident_of result.now ≡ self.now.name }
     {
         &self.definition.name
     }
 
+    /// The struct's fields, in the order of the text.
     pub fn fields(&self) -> &'a [Field]
         ensures { map field_tree result.now ≡ self.now.fields }
     {
         &self.definition.fields
     }
 
+    /// How many words an object of the struct has.
     pub fn words(&self) -> u64
         ensures { result ≡ tables.words_of_struct self.now }
     {

@@ -71,18 +71,21 @@ impl<'a> Program<'a> {
         })
     }
 
+    /// The structs, in the order of the text.
     pub fn structs(&self) -> &[Layout<'a>]
         ensures { result.now ≡ self.now.structs }
     {
         &self.structs
     }
 
+    /// The declarations of the root, of which an accepted program has one.
     pub fn roots(&self) -> &[&'a RootDecl]
         ensures { map (λ r. root_of r.now) result.now ≡ self.now.roots }
     {
         &self.roots
     }
 
+    /// The functions, in the order of the text.
     pub fn functions(&self) -> &[&'a Function]
         ensures { map (λ f. f.now) result.now ≡ self.now.functions }
     {
@@ -127,6 +130,7 @@ impl<'a> Program<'a> {
         }
     }
 
+    /// Whether anything declares the root.
     pub fn has_root(&self) -> bool
         ensures { result ≡ is_some (slice_get self.now.roots 0) }
     {

@@ -7,6 +7,7 @@ use crate::value_type::ValueType;
 use c_tree::expr::{BinaryOp, UnaryOp};
 use c_tree::stmt::AssignOp;
 
+/// Whether a value has the type of what is refused already, which fits everywhere.
 pub fn is_any(value: ValueType) -> bool
     ensures { result ≡ fits.is_any value }
 {

@@ -13,6 +13,7 @@ use nvm_base::Text;
 use pool_map::{FieldShape, FieldShapes, Shapes, StructShape, StructShapes};
 use std::alloc::{AllocError, Global};
 
+/// The fields of the root and of each struct that has a number.
 pub fn program_shapes(alloc: Global, program: &Program<'_>) -> Result<Shapes, AllocError>
     ensures { IfOk result (λ s. s ≡ meaning.shapes_in (tables_in program.now)) }
 {

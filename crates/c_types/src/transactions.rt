@@ -18,6 +18,7 @@ pub struct Transaction {
     pub rolls_back: bool,
 }
 
+/// The transactions among the functions, in the order of the text.
 pub fn transactions(alloc: Global, functions: &[&Function]) -> Result<Vec<Transaction>, AllocError>
     ensures { IfOk result (λ v. v.items
         ≡ map entry_of (transactions_in (map function_tree (map (λ f. f.now) functions.now)))) }

@@ -60,6 +60,7 @@ impl Picks {
         Ok(())
     }
 
+    /// The picks, by rising lines.
     pub fn as_slice(&self) -> &[Pick]
         ensures { result.now ≡ self.now }
     {

@@ -36,7 +36,7 @@ waits_kept (w ∷ ws) zero (suc f) quiet = quiet
 waits_kept (w ∷ ws) (suc g) zero quiet = quiet
 waits_kept (w ∷ ws) (suc g) (suc f) quiet = waits_kept ws g f quiet
 
--- a function whose entry grew waits
+-- a function has to be swept again if its entry has a new fact
 pub wakes_one : (waiting : List Bool) (entries : List (List ℕ)) (g : ℕ) (row : List ℕ)
     → Wakes waiting (slice_set waiting g true) entries (join_in entries g row)
 wakes_one waiting entries g row = record { size = length-set waiting g true; kept = kept }

@@ -20,8 +20,8 @@ use crate::topic::Topic;
 use ir::Instruction;
 use std::alloc::{AllocError, Global};
 
-/// A word arrives at a place. It is to be carried on, unless the place has a row that has it
-/// already.
+/// Notes that a word of bits comes to a place. It is carried on later, unless the row there has
+/// all its bits.
 fn arrive(
     rows: &mut Rows,
     growth: &mut Growth,
@@ -42,7 +42,7 @@ fn arrive(
     Ok(())
 }
 
-/// The word of a slot arrives at a place, and leaves the row.
+/// The word of one slot comes to a place, and is taken out of the row.
 fn hand_on(
     row: &mut [u16],
     slot: usize,
@@ -59,7 +59,8 @@ fn hand_on(
     Ok(())
 }
 
-/// The other slot that an instruction may write, or that of the sought fact.
+/// The slot that an instruction may change beside the one that is looked at: that of its target,
+/// or of the fact that is sought.
 fn result_slot(instruction: &Instruction) -> usize
     ensures { result ≡ carrying.result_slot instruction.now }
 {
@@ -73,7 +74,8 @@ fn result_slot(instruction: &Instruction) -> usize
     }
 }
 
-/// A word passes an instruction that is no call. The row is blank before and afterwards.
+/// Takes a word through an instruction that is no call. The row is all zeros before and
+/// afterwards.
 fn past_step(
     topic: Topic<'_>,
     instruction: &Instruction,
@@ -99,7 +101,7 @@ fn past_step(
     hand_on(row, result_slot(instruction), next, rows, growth)
 }
 
-/// The word of a slot after a call arrives at the next place.
+/// The word of one slot comes to the place after a call.
 fn past_call_in(
     exits: &Tables,
     function: usize,
@@ -123,7 +125,7 @@ fn past_call_in(
     arrive(rows, growth, next, slot, word)
 }
 
-/// The words of the arguments after a call arrive at the next place, each once.
+/// The words of a call's arguments come to the place after it, each slot once.
 #[tactic(auto, using(crate::proofs::Carrying::carried))]
 fn past_call_in_args(
     exits: &Tables,
@@ -159,12 +161,12 @@ fn past_call_in_args(
     Ok(())
 }
 
-/// Whether a slot belongs to a register that a call neither writes nor passes.
+/// Whether a slot is of a register that the call neither writes nor hands over.
 fn is_apart(slot: usize, to: usize, args: &[u32]) -> bool {
     slot >= 2 && slot - 2 != to && first_at(args, slot - 2).is_none()
 }
 
-/// A word passes a call. The row is blank before and afterwards.
+/// Takes a word through a call. The row is all zeros before and afterwards.
 #[tactic(auto, using(crate::proofs::Carrying::carried))]
 fn past_call(
     exits: &Tables,
@@ -202,7 +204,7 @@ fn past_call(
     Ok(())
 }
 
-/// A word arrives at the other place to which an instruction leads.
+/// Takes a word to the jump's target, if the instruction has one.
 fn lead_on(
     to: Option<usize>,
     grown: Grown,
@@ -218,7 +220,7 @@ fn lead_on(
     }
 }
 
-/// A word passes the instruction of its place, and arrives at the next place.
+/// Takes a word through the instruction of its place, to the next place.
 #[tactic(auto, using(crate::proofs::Carrying::carried))]
 fn pass(
     topic: Topic<'_>,
@@ -254,7 +256,7 @@ fn pass(
     }
 }
 
-/// Carries one word on, to the places to which the instruction of its place leads.
+/// Takes one word through the instruction of its place, to each place where that leads.
 fn carry_word(
     topic: Topic<'_>,
     exits: &Tables,
@@ -280,7 +282,7 @@ fn carry_word(
     Ok(())
 }
 
-/// Carries on the words of a list, and what grows by them.
+/// Takes each word of a list on, and each word that grows by that.
 fn carry_growth(
     alloc: Global,
     topic: Topic<'_>,
@@ -304,7 +306,7 @@ fn carry_growth(
     Ok(())
 }
 
-/// Carries on the row of a place.
+/// Takes each word of the row of a place on.
 fn carry_row(
     alloc: Global,
     topic: Topic<'_>,
@@ -323,7 +325,7 @@ fn carry_row(
     carry_growth(alloc, topic, exits, code, entry, rows, &mut growth)
 }
 
-/// Carries on the rows of these places.
+/// Takes each word of the rows of these places on.
 pub fn carry(
     alloc: Global,
     topic: Topic<'_>,

@@ -12,8 +12,8 @@ use ir::{Instruction, IrFunction, Target};
 use nvm_base::List;
 use std::alloc::{AllocError, Global};
 
-/// The classes of stores, each once: of the root's fields the first of each topic, and the fields
-/// of structs.
+/// The classes of stores, each once: of fields of the root only the first of each 16, and each
+/// field of a struct.
 #[derive(Drop)]
 pub struct Stored {
     pub roots: List<u32>,

@@ -17,8 +17,8 @@ pub fn width(topic: Topic<'_>, registers: u32) -> usize
     }
 }
 
-/// The column of a slot at a function's entry. A register that is no parameter has the column of
-/// the walk itself.
+/// The number of the column, at a function's entry, to which a slot belongs: that of its
+/// parameter. A register that is no parameter belongs to the column of the walk's start.
 fn column_of(parameters: u32, slot: usize) -> usize
     ensures { result ≡ told.column_of parameters slot }
 {
@@ -29,7 +29,8 @@ fn column_of(parameters: u32, slot: usize) -> usize
     }
 }
 
-/// The word of a slot at an entry, for one column: all classes at once.
+/// What a slot has at an entry, if the function is swept for one column: all bits in that column,
+/// and none elsewhere.
 fn entry_word(parameters: u32, column: usize, slot: usize) -> u16
     ensures { result ≡ entry_word parameters column slot }
 {
@@ -40,7 +41,7 @@ fn entry_word(parameters: u32, column: usize, slot: usize) -> u16
     }
 }
 
-/// The row at an entry, for one column.
+/// The row at a function's entry, if it is swept for one column.
 pub fn entry_row(
     alloc: Global,
     topic: Topic<'_>,

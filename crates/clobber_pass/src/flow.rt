@@ -34,8 +34,8 @@ fn registers_at(functions: &[IrFunction], function: usize) -> u32
     }
 }
 
-/// The word of a parameter, which is that of its argument; any other register has that of the walk
-/// itself.
+/// What a register has at a called function's entry: a parameter what its argument has, any other
+/// what the walk's start has.
 fn argument_word(row: &[u16], argument: Option<u32>) -> u16
     ensures { result ≡ flows.argument_word row.now argument }
 {
@@ -74,8 +74,8 @@ fn enter_row(
     Ok(new)
 }
 
-/// Joins a row to a function's entry. If the entry grew, the function waits. Returns whether it
-/// grew.
+/// Joins a row to that of a function's entry. If that grew, the function has to be swept again.
+/// Returns whether it grew.
 #[tactic(auto, using(crate::proofs::Waking::waking))]
 fn bring(
     alloc: Global,
@@ -127,7 +127,7 @@ fn enter(
     }
 }
 
-/// One place of a pass over a table that is a fixpoint.
+/// Does the calls at one place, when the rows don't change any more.
 fn enter_at(
     alloc: Global,
     ir: &Ir,
@@ -156,7 +156,7 @@ fn enter_at(
     Ok(grew)
 }
 
-/// Joins the rows at all calls of a function to the entries of the called ones.
+/// Joins the rows at all calls in a function to the entries of the functions that they call.
 #[tactic(auto, using(crate::proofs::Waking::waking))]
 fn enter_all(
     alloc: Global,
@@ -197,7 +197,7 @@ fn enter_all(
     Ok(grew)
 }
 
-/// The row at a function's entry; a row that records nothing, if nothing reached it yet.
+/// The row at a function's entry. If no walk came there yet, a row that makes nothing known.
 pub fn at_entry(
     alloc: Global,
     topic: Topic<'_>,
@@ -213,7 +213,8 @@ pub fn at_entry(
     }
 }
 
-/// Sweeps from a function's entry, and joins what its calls bring. Returns whether any entry grew.
+/// Sweeps a function from the row at its entry, and joins what its calls bring to the called
+/// functions' entries. Returns whether any of these grew.
 fn flow_through(
     alloc: Global,
     ir: &Ir,
@@ -246,7 +247,7 @@ fn flow_through(
     Ok(grew)
 }
 
-/// The same, if the function waits.
+/// The same, if the function has to be swept again.
 #[tactic(auto, using(crate::proofs::Waking::settling))]
 fn flow_where(
     alloc: Global,
@@ -275,7 +276,7 @@ fn flow_where(
     flow_through(alloc, ir, topic, exits, function, entries, tables, waiting)
 }
 
-/// The same, if the function exists.
+/// The same, if there is a function of this number.
 fn flow_in(
     alloc: Global,
     ir: &Ir,
@@ -300,7 +301,7 @@ fn flow_in(
     Ok(())
 }
 
-/// The same for the functions of an order, from the last on: callers come first.
+/// The same for the functions of a list, from the last on: so a caller comes before what it calls.
 fn flow_along(
     alloc: Global,
     ir: &Ir,
@@ -354,7 +355,7 @@ fn flow_round(
     Ok(grew)
 }
 
-/// The same, after those that wait were swept along the order.
+/// The same, after the functions that have to be swept again were swept in the order of the list.
 fn ordered_flow(
     alloc: Global,
     ir: &Ir,
@@ -379,7 +380,7 @@ fn ordered_flow(
     flow_round(alloc, ir, topic, exits, entries, tables, waiting)
 }
 
-/// Starts at a function's entry, if it is a transaction.
+/// Gives the entry of a transaction the row of a walk that begins there.
 fn start_at(
     alloc: Global,
     ir: &Ir,
@@ -402,7 +403,7 @@ fn start_at(
     Ok(())
 }
 
-/// The entries before any call: transactions start with nothing known.
+/// The rows at the functions' entries before any call is looked at.
 fn starts(alloc: Global, ir: &Ir, topic: Topic<'_>) -> Result<Rows, AllocError>
     ensures entries { IfOk result (λ entries. Entries ir.now.functions topic.entry entries) }
     ensures start { IfOk result (λ entries. StartEntries ir.now.functions topic.entry entries) }
@@ -415,14 +416,14 @@ fn starts(alloc: Global, ir: &Ir, topic: Topic<'_>) -> Result<Rows, AllocError>
     Ok(entries)
 }
 
-/// What all walks bring: the row at each function's entry, and the table of each function's rows.
+/// What all walks bring: the row at each function's entry, and the rows of each function's places.
 #[derive(Drop)]
 pub struct Flow {
     pub entries: Rows,
     pub tables: Tables,
 }
 
-/// What walks from transactions bring to each place, for a topic.
+/// What walks from transactions bring to each place, for the fields of one topic.
 pub fn flows(
     alloc: Global,
     ir: &Ir,

@@ -6,7 +6,7 @@ ghost use Rattle.clobber_pass.specs.inside.Carrying.{grown_from};
 use std::alloc::{AllocError, Global};
 use std::marker::Model;
 
-/// A word that reaches a slot at a place.
+/// Bits that a slot has got at a place.
 #[derive(Clone, Copy)]
 pub struct Grown {
     pub place: usize,
@@ -14,7 +14,7 @@ pub struct Grown {
     pub word: u16,
 }
 
-/// Words to carry on. The newest is taken first.
+/// Bits that have still to be carried on to the places after theirs, the newest first.
 #[derive(Drop)]
 pub struct Growth {
     all: Vec<Grown>,

@@ -5,17 +5,18 @@ use crate::calling::Edge;
 use ir::Ir;
 use std::alloc::{AllocError, Global};
 
-/// The most turns of a loop that works off a stack. The sweeps find what it leaves.
+/// A bound on the work of this loop, which makes only an order. Functions that it leaves out are
+/// swept nevertheless.
 pub const MOST_TURNS: u32 = u32::MAX;
 
-/// What is next in a walk along calls: a function is met, or is left after all that it calls.
+/// What is to be done next: a function is reached, or everything that it calls has been done.
 #[derive(Clone, Copy)]
 enum Turn {
     Meet(usize),
     Leave(usize),
 }
 
-/// A walk along calls. The newest turn is taken first.
+/// The functions that are still to be done, while calls are followed. The newest is done first.
 #[derive(Drop)]
 struct Walk {
     met: Vec<bool>,
@@ -24,7 +25,7 @@ struct Walk {
 }
 
 impl Walk {
-    /// The functions that a function calls are met next.
+    /// Puts the functions that a function calls before all others.
     fn meet_called(&mut self, edges: &[Edge], caller: usize) -> Result<(), AllocError> {
         for edge in edges {
             if edge.caller == caller {
@@ -34,7 +35,7 @@ impl Walk {
         Ok(())
     }
 
-    /// Meets a function, if it wasn't met before.
+    /// Reaches a function, and goes on with what it calls, unless it was reached before.
     fn meet(&mut self, edges: &[Edge], function: usize) -> Result<(), AllocError> {
         if function >= self.met.len() || self.met[function] {
             return Ok(());
@@ -44,7 +45,7 @@ impl Walk {
         self.meet_called(edges, function)
     }
 
-    /// Takes a turn.
+    /// Does what is next.
     fn take(&mut self, edges: &[Edge], turn: Turn) -> Result<(), AllocError> {
         match turn {
             Turn::Meet(function) => self.meet(edges, function),
@@ -52,13 +53,13 @@ impl Walk {
         }
     }
 
-    /// Leaves a function, which is next in the order.
+    /// Puts a function into the order, since all that it calls stands there.
     fn leave(&mut self, function: usize) -> Result<(), AllocError> {
         self.order.push(function)?;
         Ok(())
     }
 
-    /// Walks from a function.
+    /// Follows the calls from one function on.
     fn walk_from(&mut self, edges: &[Edge], function: usize) -> Result<(), AllocError> {
         self.meet(edges, function)?;
         for _ in 0..MOST_TURNS {
@@ -71,7 +72,7 @@ impl Walk {
     }
 }
 
-/// The functions, each after those that it calls, as far as no calls go in circles.
+/// The functions, each after those that it calls, but where calls go in circles.
 pub fn call_order(alloc: Global, ir: &Ir, edges: &[Edge]) -> Result<Vec<usize>, AllocError> {
     let count = ir.functions.as_slice().len();
     let mut walk = Walk {

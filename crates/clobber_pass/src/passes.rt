@@ -19,7 +19,8 @@ use crate::topic::Topic;
 use ir::{Ir, IrFunction};
 use std::alloc::{AllocError, Global};
 
-/// Sweeps from one column of a function's entry. Returns whether the exits grew.
+/// Sweeps a function for one column of its entry, and joins what comes to its returns to the
+/// exits. Returns whether these grew.
 fn column(
     alloc: Global,
     ir: &Ir,
@@ -62,7 +63,7 @@ fn parameters_at(functions: &[IrFunction], function: usize) -> u32
     }
 }
 
-/// Sweeps from each column of a function's entry.
+/// Sweeps a function for each column of its entry.
 fn columns(
     alloc: Global,
     ir: &Ir,
@@ -92,8 +93,8 @@ fn columns(
     Ok(grew)
 }
 
-/// Sweeps a function that waits. If its exits grew, its callers wait, itself among them if it calls
-/// itself.
+/// Sweeps a function that has to be swept again. If its exits grew, so have its callers, itself
+/// among them if it calls itself.
 #[tactic(auto, using(crate::proofs::Recalling::passing, crate::proofs::Waking::settling))]
 fn pass_through(
     alloc: Global,
@@ -123,7 +124,7 @@ fn pass_through(
     Ok(false)
 }
 
-/// The same, if the function waits.
+/// The same, if the function has to be swept again.
 #[tactic(auto, using(crate::proofs::Waking::settling))]
 fn pass_where(
     alloc: Global,
@@ -151,7 +152,7 @@ fn pass_where(
     pass_through(alloc, ir, topic, edges, function, exits, waiting)
 }
 
-/// The same, if the function exists.
+/// The same, if there is a function of this number.
 fn pass_in(
     alloc: Global,
     ir: &Ir,
@@ -174,7 +175,8 @@ fn pass_in(
     Ok(())
 }
 
-/// The same for the functions of an order, from the first on.
+/// The same for the functions of a list, from the first on: so a function comes after what it
+/// calls.
 fn pass_along(
     alloc: Global,
     ir: &Ir,
@@ -224,7 +226,7 @@ fn round(
     Ok(grew)
 }
 
-/// The same, after those that wait were swept along the order.
+/// The same, after the functions that have to be swept again were swept in the order of the list.
 fn ordered_round(
     alloc: Global,
     ir: &Ir,
@@ -248,8 +250,8 @@ fn ordered_round(
     round(alloc, ir, topic, edges, exits, waiting)
 }
 
-/// What passes through each function, for a topic: the exits of each called function, from each
-/// column of its entry.
+/// For each function: which facts at its entry reach which facts at its returns, for the fields of
+/// one topic.
 pub fn passes(
     alloc: Global,
     ir: &Ir,

@@ -21,7 +21,7 @@ fn meets(one: u16, other: u16, mask: u16) -> bool
     !(one & other & mask == 0)
 }
 
-/// The mark of a store, if its class belongs to the topic: it is set if the class may be unwritten
+/// The mark of a store, if this topic has its field: it is set if the field may be unwritten
 /// there, and may have been read.
 fn store_word(topic: Topic<'_>, target: Target, row: &[u16]) -> u16
     ensures { result ≡ inside_marking.store_word topic.entry target row.now }
@@ -57,7 +57,7 @@ fn store_word(topic: Topic<'_>, target: Target, row: &[u16]) -> u16
     }
 }
 
-/// The mark of a new object's fill.
+/// The mark of the zeros of a new object.
 fn fill_word(topic: Topic<'_>, row: &[u16]) -> u16
     ensures { result ≡ inside_marking.fill_word topic.entry row.now }
 {
@@ -115,6 +115,7 @@ fn header_word(instruction: &Instruction) -> u16
     }
 }
 
+/// The marks of a function before any topic: those of the headers that its code stores.
 pub fn headers(alloc: Global, code: &[Instruction]) -> Result<Vec<u16>, AllocError>
     ensures { IfOk result (λ marks. marks.items ≡ inside_marking.headers code.now) }
 {

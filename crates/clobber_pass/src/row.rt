@@ -25,7 +25,7 @@ pub fn put(row: &mut [u16], slot: usize, word: u16)
     }
 }
 
-/// The bit of a field, counted from the first field of a topic.
+/// The bit of a field of the root, if the topic's first field is this one.
 #[tactic(auto, using(std::proofs::lemmas::Nat::one_shl), unfolding(crate::specs::inside::Row::mask))]
 pub fn mask(first: u32, field: u32) -> u16
     ensures { result ≡ inside_rows.mask first field }
@@ -40,7 +40,7 @@ pub fn mask(first: u32, field: u32) -> u16
     }
 }
 
-/// The bit of a place in a topic, or 0 past its last place.
+/// The bit of the field at this place of the topic, or 0 past its last.
 #[tactic(auto, using(std::proofs::lemmas::Nat::one_shl), unfolding(crate::specs::inside::Row::place_bit))]
 fn place_bit(place: usize) -> u16
     ensures { result ≡ inside_rows.place_bit place }
@@ -52,7 +52,7 @@ fn place_bit(place: usize) -> u16
     }
 }
 
-/// The bit of a place, if the field there is this one.
+/// The bit of a place of the topic, if the field there is the one that is sought, else 0.
 fn bit_of(one: StructField, place: usize, kind: u32, field: u32) -> u16
     ensures { result ≡ inside_rows.bit_of one place kind field }
 {

@@ -99,7 +99,7 @@ impl Rows {
         }
     }
 
-    /// Joins another row to the row of a place, in the slots that it has.
+    /// Joins a row to the row of a place, as far as that has slots.
     pub fn meet(&mut self, place: usize, more: &[u16]) -> bool
         ensures row { self.new ≡ inside_sweeps.meet_in self.old place more.now }
         ensures same { result ≡ false → self.new ≡ self.old }
@@ -139,7 +139,7 @@ impl Rows {
     }
 }
 
-/// Joins another row to a row, in the slots that it has. Returns whether it grew.
+/// Joins one row to another, as far as that has slots. Returns whether it grew.
 fn join_words(row: &mut [u16], more: &[u16]) -> bool
     ensures row { row.new ≡ inside_sweeps.or_from more.now 0 row.old }
     ensures same { result ≡ false → row.new ≡ row.old }
@@ -185,7 +185,7 @@ fn raise_in(row: &mut [u16], slot: usize, bits: u16) -> bool
     false
 }
 
-/// The word with more bits, which is greater, or `None` if it has them already.
+/// The word with these bits added, or `None` if it has all of them.
 #[tactic(auto, using(std::proofs::lemmas::Nat::le_or_l))]
 fn raised(word: u16, bits: u16) -> Option<u16>
     ensures more { IfSome result (λ more. more ≡ bit_or word bits) }

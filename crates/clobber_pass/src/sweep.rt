@@ -15,7 +15,7 @@ use crate::topic::Topic;
 use ir::Instruction;
 use std::alloc::{AllocError, Global};
 
-/// What a called function's returns record in a slot, as far as the call records one slot.
+/// What one slot of a called function's row at its returns brings to the place after the call.
 fn comes(
     exits: &Tables,
     function: usize,
@@ -30,7 +30,7 @@ fn comes(
     exits.word(function, column, slot) & word(row, at_call)
 }
 
-/// The same, from everything that the call records.
+/// The same of all slots that the call hands over.
 fn gather(exits: &Tables, function: usize, row: &[u16], args: &[u32], slot: usize) -> u16
     ensures { result ≡ inside_sweeps.gather (inside_sweeps.exits_of exits.now function) row.now
         args.now slot }
@@ -148,8 +148,8 @@ pub fn advance(
     Ok(())
 }
 
-/// The other place to which an instruction leads: a jump's target, or for a return the place after
-/// the last.
+/// The place to which an instruction leads beside the next one: where it jumps to, or for a return
+/// the place after the last.
 pub fn target(end: usize, instruction: &Instruction) -> Option<usize>
     ensures { result ≡ inside_sweeps.jump_target end instruction.now }
 {
@@ -160,8 +160,8 @@ pub fn target(end: usize, instruction: &Instruction) -> Option<usize>
     }
 }
 
-/// Joins a row to that of a place, and continues with the result. Returns whether the place's row
-/// grew.
+/// Joins a row to that of a place, and goes on with the joined row. Returns whether the place's
+/// row grew.
 fn meet(rows: &mut Rows, place: usize, row: &mut Vec<u16>) -> Result<bool, AllocError>
     ensures rows { IfOk result (λ _. rows.new ≡ inside_sweeps.meet_in rows.old place
         row.old.items) }
@@ -177,8 +177,8 @@ fn meet(rows: &mut Rows, place: usize, row: &mut Vec<u16>) -> Result<bool, Alloc
     Ok(grew)
 }
 
-/// Joins a row to that of the other place to which an instruction leads. If this is no later place,
-/// and its row grew, it is added to the list.
+/// Joins a row to that of the place to which an instruction jumps. If that lies before the jump,
+/// and its row grew, the place is added to the list.
 fn lead(
     alloc: Global,
     rows: &mut Rows,
@@ -204,7 +204,7 @@ fn lead(
     Ok(grew)
 }
 
-/// One place of a sweep.
+/// What a sweep does at one place.
 fn visit(
     alloc: Global,
     topic: Topic<'_>,
@@ -237,8 +237,8 @@ fn visit(
     Ok(met || led)
 }
 
-/// One sweep through a function's code. Returns whether the table of its rows grew. The list takes
-/// the places whose row grew against the order of the code.
+/// Goes once through a function's code. Returns whether any row grew. The list takes the places
+/// whose row grew by a jump back.
 fn sweep(
     alloc: Global,
     topic: Topic<'_>,
@@ -276,8 +276,8 @@ fn sweep(
     Ok(grew)
 }
 
-/// Sweeps through a function's code, from a row at its entry, until a fixpoint is reached. Between
-/// two sweeps, what grew against the order of the code is carried on.
+/// Goes through a function's code, from the row at its entry, until no row grows. Between two
+/// sweeps the words that grew by a jump back are carried on.
 pub fn run(
     alloc: Global,
     topic: Topic<'_>,

@@ -59,7 +59,7 @@ impl Tables {
         self.functions[function].join(alloc, row, more)
     }
 
-    /// Empty rows, one for each column of each function's entry.
+    /// For each function a table with an empty row for each column of its entry.
     pub fn new(alloc: Global, functions: &[IrFunction]) -> Result<Self, AllocError>
         ensures { IfOk result (λ t. t ≡ no_exits functions.now) }
     {

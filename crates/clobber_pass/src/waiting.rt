@@ -7,7 +7,7 @@ ghost use Rattle.clobber_pass.specs.inside.Flow.{waits};
 use crate::rows::Rows;
 use std::alloc::{AllocError, Global};
 
-/// The waiting list at the start: each function whose entry has a row.
+/// The functions that have to be swept, at the start: each whose entry has a row.
 pub fn waiting_at(alloc: Global, entries: &Rows, count: usize) -> Result<Vec<bool>, AllocError>
     ensures size { IfOk result (λ waiting. length waiting.items ≡ count) }
     ensures others { IfOk result (λ waiting. (f : ℕ) → waits waiting.items f ≡ false
@@ -20,7 +20,7 @@ pub fn waiting_at(alloc: Global, entries: &Rows, count: usize) -> Result<Vec<boo
     Ok(waiting)
 }
 
-/// Makes a function wait.
+/// Notes that a function has to be swept again.
 #[tactic(auto, using(crate::proofs::Bits::set_past))]
 pub fn wake(waiting: &mut [bool], function: usize)
     ensures { waiting.new ≡ slice_set waiting.old function true }

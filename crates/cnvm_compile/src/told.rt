@@ -22,6 +22,7 @@ pub enum Told {
     NoMemory,
 }
 
+/// What is told of a refused program on standard output.
 pub fn told_of(fault: ProgramFault) -> Told
     ensures { result ≡ told_of fault }
 {

@@ -1,6 +1,7 @@
 -- The most steps that a command takes.
 use Rattle.std.proofs.Common.{◌≡◌, ◌≤◌, ℕ, zero, suc, ◌+◌, Bool, true, false, ◌==◌}
-use Rattle.std.proofs.Common.{List, [], ◌∷◌, Option, Some, None, length, slice_get, ℤ, refl, subst, arith}
+use Rattle.std.proofs.Common.{List, [], ◌∷◌, Option, Some, None, length, slice_get, ℤ, refl, subst}
+use Rattle.std.proofs.Common.{arith}
 use Rattle.std.specs.List.{list_any}
 use Rattle.std.specs.Option.{option_map_or}
 use Rattle.std.proofs.lemmas.Bool.{or_left, or_right, and_parts}
@@ -64,7 +65,8 @@ recovery_within marks p image k k1 is most =
 runs_most : (marks : Bool) (image : Image) (tx : ℕ) (args : List ℤ) (d : Device) (a : Answer)
     (n : Mode) (b : Device) (k k1 : ℕ) → RunsBy marks image tx args d a n b k k1
     → Few (bounded_steps false image) k k1
-runs_most marks image tx args d a n b k k1 h = call_within (policy_of marks) image k k1 h.called.most
+runs_most marks image tx args d a n b k k1 h = call_within (policy_of marks) image k k1
+    h.called.most
 
 module _ (program : Program) (args : List ℤ) (d : Device) (a : Answer) (n : Mode) (b : Device)
     (k k1 : ℕ) where
@@ -95,7 +97,8 @@ call_most program name args (Unusable kind) d a n b k k1 h = none _ k k1 h.3
 
 pub recovers_most : (marks : Bool) (image : Image) (d : Device) (a : Answer) (n : Mode) (b : Device)
     (k k1 : ℕ) → RecoversBy marks image d a n b k k1 → Few (bounded_steps marks image) k k1
-recovers_most marks image d a n b k k1 h = recovery_within marks (policy_of marks) image k k1 refl h.recovered.most
+recovers_most marks image d a n b k k1 h = recovery_within marks (policy_of marks) image k k1 refl
+    h.recovered.most
 
 power_most : (program : Program) (choice : Choice) (m : Mode) (d : Device) (a : Answer) (n : Mode)
     (b : Device) (k k1 : ℕ) (first pick : Option ℕ) →

@@ -29,7 +29,8 @@ called_counts (called.Unusable t) p image tx args d b k k1 h = absurd h
 called_counts called.Numbers p image tx args d b k k1 h = absurd h
 
 pub call_counts : (r : CallAnswer) (p : Policy) (image : Image) (tx : ℕ) (args : List ℤ)
-    (d b : Device) (k k1 : ℕ) → IsTxCalled r p image tx args d b k k1 → Counts (answer_of_call r) d b
+    (d b : Device) (k k1 : ℕ) → IsTxCalled r p image tx args d b k k1
+    → Counts (answer_of_call r) d b
 call_counts r p image tx args d b k k1 h =
     by_standing (Counts (answer_of_call r) d b) d
     (λ on is. called_counts r p image tx args d b k k1 (h.ready on is))

@@ -33,7 +33,8 @@ cleaned_counts (recovered.Unusable t) d es b h = absurd h
 cleaned_counts recovered.Numbers d es b h = absurd h
 
 redid_counts : (r : RecoverAnswer) (p : Policy) (image : Image) (tx : ℕ) (args : List ℤ) (n : ℕ)
-    (d b : Device) (k k1 : ℕ) → Redid r p image tx args n d b k k1 → Counts (answer_of_recovery r) d b
+    (d b : Device) (k k1 : ℕ) → Redid r p image tx args n d b k k1
+    → Counts (answer_of_recovery r) d b
 redid_counts (recovered.Redone v l) p image tx args n d b k k1 h =
     counts_all _ d _ b (λ e. absurd cc) h.0.played
 redid_counts (recovered.Trap t) p image tx args n d b k k1 h =

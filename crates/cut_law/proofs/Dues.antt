@@ -41,8 +41,8 @@ use Rattle.cut_law.proofs.Misses.{view_missed, misses_run}
 use Rattle.cut_law.proofs.Numbers.{next_is, attempt_small}
 use Rattle.cut_law.proofs.Holds.{Holds, holds_run, counted, undo_is, trace_records}
 
--- a run's events, its end, and what follows it, from attempt a, no record and a heap r that is alike
--- for the run from h
+-- a run's events, its end, and what follows it, from attempt a, no record and a heap r that is
+-- alike for the run from h
 module _ (p : Policy) (image : Image) (tx : ℕ) (args : List ℤ) (c : Cache) (d a : ℕ) (last : ℤ)
     (h r : Words) (end : End) (es : List Effect)
     (d_fits : d ≤ 2 ^ 62) (a_fits : a ≤ 2 ^ 62) (last_is : view c LAST ≡ last)

@@ -33,7 +33,8 @@ call_rise p image tx args d b k k1 call.NoMemory called =
 call_rise p image tx args d b k k1 (call.Unusable t) called = absurd called
 call_rise p image tx args d b k k1 call.Numbers called = absurd called
 
-pub redo_rise : (p : Policy) (image : Image) (tx : ℕ) (args : List ℤ) (m : ℕ) (d b : Device) (k k1 : ℕ)
+pub redo_rise : (p : Policy) (image : Image) (tx : ℕ) (args : List ℤ) (m : ℕ) (d b : Device)
+    (k k1 : ℕ)
     (answer : RecoverAnswer) → Redid answer p image tx args m d b k k1 → d.faults ≤ b.faults
 redo_rise p image tx args m d b k k1 (recover.Redone v l) redid =
     all_rise (due_redo p image tx args m d.cache) d b redid.0.played

@@ -158,7 +158,8 @@ module _ (z : Sizes) (a : ℕ) where
       Holds (records_after r heap trace) (play c (run_events z a r.n heap trace))
   holds_run E W [] r heap stored c h is = h
   holds_run E W (Plain w x ∷ trace) r heap stored c h is =
-      holds_run E W trace r (put heap w x) (λ u. (u ≡ w) ⊎ stored u) (apply c (Store (at C (Heap w)) x))
+      holds_run E W trace r (put heap w x) (λ u. (u ≡ w) ⊎ stored u)
+      (apply c (Store (at C (Heap w)) x))
       (holds_store r c w x h) is.3
   holds_run E W (Logged w x ∷ trace) r heap stored c h is =
       let c5' : Cache =

@@ -1,5 +1,6 @@
 -- The numbers that a pool counts its calls and attempts with.
-use Rattle.std.proofs.Common.{◌≡◌, ℕ, suc, ◌+◌, ◌-◌, ◌^◌, ◌≤◌, if◌then◌else◌, Bool, true, false, ltb}
+use Rattle.std.proofs.Common.{◌≡◌, ℕ, suc, ◌+◌, ◌-◌, ◌^◌, ◌≤◌, if◌then◌else◌, Bool, true, false}
+use Rattle.std.proofs.Common.{ltb}
 use Rattle.std.proofs.Common.{w64, ℤ, pos, ◌+ℤ◌, FitsSigned, refl, ap, ◌∙◌, arith}
 use Rattle.std.specs.Int.{int_wrap}
 use Rattle.std.proofs.lemmas.Int.{ints, int_wrap_fits}

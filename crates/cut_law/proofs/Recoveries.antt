@@ -25,7 +25,8 @@ module _ (p : Policy) (image : Image) (super : Words) (tx : ℕ) (args : List �
   abbrev Recoverable : Words → Type 0
   Recoverable other = Owed (pool_with image super) (call_of d tx args) (E p es) (W es) h
       (KeepsLast (result_of p last end)) other
-      ⊎ IsEnd (pool_with image super) (call_of d tx args) h (heap_end h es) (result_of p last end) other
+      ⊎ IsEnd (pool_with image super) (call_of d tx args) h (heap_end h es) (result_of p last end)
+      other
 
   recovered : (one other : Words) → IsRecoveredTo p image super tx args d h last end es one other
       → Recoverable other
@@ -36,12 +37,15 @@ module _ (p : Policy) (image : Image) (super : Words) (tx : ℕ) (args : List �
       cut.left
 
   again : (k : ℕ) (one other : Words) → Recoverable one →
-      AreInARow (IsRecoveredTo p image super tx args d h last end es) k one other → Recoverable other
+      AreInARow (IsRecoveredTo p image super tx args d h last end es) k one other
+      → Recoverable other
   again zero one other now same = subst Recoverable same now
   again (suc k) one other now cuts = again k cuts.0 other (recovered one cuts.0 cuts.1) cuts.2
 
   pub cut_again : (k : ℕ) (one other : Words) →
-      Owed (pool_with image super) (call_of d tx args) (E p es) (W es) h (KeepsLast (result_of p last end))
+      Owed (pool_with image super) (call_of d tx args) (E p es) (W es) h
+      (KeepsLast (result_of p last end))
       one →
-      AreInARow (IsRecoveredTo p image super tx args d h last end es) k one other → Recoverable other
+      AreInARow (IsRecoveredTo p image super tx args d h last end es) k one other
+      → Recoverable other
   cut_again k one other owed cuts = again k one other (inl owed) cuts

@@ -258,7 +258,8 @@ module _ (p : Policy) (image : Image) (super : Words) (tx : ℕ) (args : List �
         ap (λ (b : Cache). due_back z (suc m) c ++ plays.due_run p image s b) after_is
         ∙ ap (λ (es : List CacheEvent). es ++ plays.due_run p image s cache_after) back_is
         ∙ ap (λ (rest : List CacheEvent). (first ++ reset) ++ rest)
-        (run_list_is cache_after (suc a) (omega arith) last_after done_after attempt_after none_after
+        (run_list_is cache_after (suc a) (omega arith) last_after done_after attempt_after
+        none_after
         heap_of_after)
         ∙ append_assoc first reset (run_list (suc a))
         ∙ ap (λ (es : List CacheEvent). es ++ (reset ++ run_list (suc a)))

@@ -34,8 +34,8 @@ call_of d tx args = record { done = d; function = pos tx; args = args }
 abbrev pub pool_with : Image → Words → Pool
 pool_with image super = record { sizes = image.parts.sizes; super = super }
 
--- The run of a transaction from heap h, with its records, is sound, and comes to this end with these
--- effects.
+-- The run of a transaction from heap h, with its records, is sound, and comes to this end with
+-- these effects.
 pub record RunsSound (p : Policy) (image : Image) (tx : ℕ) (args : List ℤ) (h : Words)
     (end : End) (es : List Effect)
     : Type 0 where

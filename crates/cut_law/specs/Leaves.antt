@@ -22,8 +22,9 @@ use Rattle.cut_law.specs.Steps.{run_steps}
 use Rattle.cut_law.specs.Law.{pool_with, RunsSound, BeginsOn, OwesInImage, Finishes, CutImages}
 use Rattle.cut_law.specs.Law.{RedoImages}
 
--- What the answer of a call says about its run and its effect: after a run that came to its end, the
--- number of records, the step counter, which rose from k to k1, and the fact that holds at the end.
+-- What the answer of a call says about its run and its effect: after a run that came to its end,
+-- the number of records, the step counter, which rose from k to k1, and the fact that holds at the
+-- end.
 abbrev pub AnswerTells : CallAnswer → Policy → End → List Effect → Type 0 → (k k1 : ℕ) → Type 0
 AnswerTells (call.Done v l) p end es ended k k1 =
     (end ≡ Halted v) × (l ≡ records_end 0 es) × ended × (k1 ≡ k + run_steps p end es)
@@ -44,8 +45,8 @@ Retells (recover.Aborted t) p end es ended k k1 =
 Retells answer p end es ended k k1 = Unit {0}
 
 -- Cut call: whatever a call answers, every image is one that the law names; after Done, Trap and
--- Aborted it is the call's end, with the value, the records and the steps of the run from the view's
--- heap.
+-- Aborted it is the call's end, with the value, the records and the steps of the run from the
+-- view's heap.
 abbrev pub CallLeavesLaw : Type 0
 CallLeavesLaw =
     (p : Policy) (image : Image) (super : Words) (tx : ℕ) (args : List ℤ) (d b : Device)

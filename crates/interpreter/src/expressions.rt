@@ -131,6 +131,7 @@ impl<'a> Run<'a> {
         }
     }
 
+    /// Plans to evaluate the arguments of a call, from the first on.
     pub fn arguments(&mut self, all: &'a [Argument]) -> Result<(), AllocError>
         ensures { (t : Tables) → OnOk result
             (resumed t self.new ≡ todo_begun t (todo.Arguments (arguments_in all.now)) self.old) }
@@ -144,6 +145,7 @@ impl<'a> Run<'a> {
         }
     }
 
+    /// Replaces the last value by that of a unary operator on it.
     pub fn unary(&mut self, op: UnaryOp) -> Result<(), AllocError>
         ensures { (t : Tables) → OnOk result
             (resumed t self.new ≡ todo_begun t (todo.Word (word_task.Unary op)) self.old) }
@@ -152,6 +154,8 @@ impl<'a> Run<'a> {
         self.give(unary(op, operand))
     }
 
+    /// Replaces the last two values by that of a binary operator on them. A zero divisor is the
+    /// trap of the place.
     pub fn binary(&mut self, op: BinaryOp, place: u64) -> Result<(), Fault>
         ensures quiet { Quiet result }
         ensures does { (t : Tables) → StepLeads t (todo.Word (word_task.Binary op place)) self.old
@@ -171,6 +175,7 @@ impl<'a> Run<'a> {
         }
     }
 
+    /// Goes on with the right side of `&&`, unless the left one is 0 or `NULL`.
     pub fn both(&mut self, right: &'a Expr) -> Result<(), AllocError>
         ensures { (t : Tables) → OnOk result
             (resumed t self.new ≡ todo_begun t (todo.Expr task.Both (expr_of right.now)) self.old) }
@@ -182,6 +187,7 @@ impl<'a> Run<'a> {
         self.plan_expr(ExprTask::Eval, right)
     }
 
+    /// Goes on with the right side of `||`, if the left one is 0 or `NULL`.
     pub fn either(&mut self, right: &'a Expr) -> Result<(), AllocError>
         ensures { (t : Tables) → OnOk result
             (resumed t self.new ≡ todo_begun t (todo.Expr task.Either (expr_of right.now))
@@ -194,6 +200,7 @@ impl<'a> Run<'a> {
         self.plan_expr(ExprTask::Eval, right)
     }
 
+    /// Goes on with one side of `c ? a : b`, by the last value.
     pub fn sides(&mut self, left: &'a Expr, right: &'a Expr) -> Result<(), AllocError>
         ensures { (t : Tables) → OnOk result
             (resumed t self.new ≡ todo_begun t
@@ -205,6 +212,7 @@ impl<'a> Run<'a> {
         self.plan_expr(ExprTask::Eval, left)
     }
 
+    /// Replaces the last value by 0 where it is 0 or `NULL`, and by 1 where it is not.
     pub fn truth(&mut self) -> Result<(), AllocError>
         ensures { (t : Tables) → OnOk result
             (resumed t self.new ≡ todo_begun t (todo.Word word_task.Truth) self.old) }
@@ -215,6 +223,8 @@ impl<'a> Run<'a> {
         self.give(1)
     }
 
+    /// Replaces the last values, a pointer and an index as far as the expression has them, by what
+    /// the pool has there.
     pub fn load(&mut self, program: &Program<'a>, expr: &Expr) -> Result<(), Fault>
         ensures quiet { Quiet result }
         ensures does { StepLeads (tables_in program.now) (todo.Expr task.Load (expr_of expr.now))
@@ -227,6 +237,7 @@ impl<'a> Run<'a> {
         Ok(())
     }
 
+    /// The same, and leaves pointer and index where they are, for an assignment with an operator.
     pub fn fetch(&mut self, program: &Program<'a>, expr: &Expr) -> Result<(), Fault>
         ensures quiet { Quiet result }
         ensures does { StepLeads (tables_in program.now) (todo.Expr task.Fetch (expr_of expr.now))
@@ -240,6 +251,7 @@ impl<'a> Run<'a> {
         Ok(())
     }
 
+    /// Checks pointer and index, and stores the last value there.
     #[tactic(auto, using(crate::proofs::Resume::traps))]
     pub fn store(&mut self, program: &Program<'a>, expr: &Expr) -> Result<(), Fault>
         ensures quiet { Quiet result }
@@ -253,6 +265,7 @@ impl<'a> Run<'a> {
         Ok(())
     }
 
+    /// Stores the last value to a local.
     pub fn assign(&mut self, name: &Name)
         ensures { (t : Tables) → resumed t self.new ≡ todo_begun t (todo.Assign name.now.text)
             self.old }
@@ -261,6 +274,7 @@ impl<'a> Run<'a> {
         self.top.assign(name.text.as_str(), value);
     }
 
+    /// Checks the pointer, and frees its object.
     #[tactic(auto, using(crate::proofs::Resume::traps))]
     pub fn free(&mut self, program: &Program<'a>, place: u64, pointer: &Expr) -> Result<(), Fault>
         ensures quiet { Quiet result }

@@ -112,18 +112,21 @@ impl<'a> Run<'a> {
         self.plan.pop()
     }
 
+    /// Puts a task on an expression before all other tasks.
     pub fn plan_expr(&mut self, task: ExprTask, expr: &'a Expr) -> Result<(), AllocError>
         ensures { OnOk result (self.new ≡ planned (work.Expr task expr.entry) self.old) }
     {
         self.plan(Work::Expr(task, expr))
     }
 
+    /// Puts a task on a statement before all other tasks.
     pub fn plan_stmt(&mut self, task: StmtTask, stmt: &'a Stmt) -> Result<(), AllocError>
         ensures { OnOk result (self.new ≡ planned (work.Stmt task stmt.entry) self.old) }
     {
         self.plan(Work::Stmt(task, stmt))
     }
 
+    /// Adds a value to those that are evaluated.
     pub fn give(&mut self, value: i64) -> Result<(), AllocError>
         ensures { OnOk result (self.new ≡ record self.old { values = value ∷ self.old.values }) }
     {

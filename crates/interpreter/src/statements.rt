@@ -184,6 +184,7 @@ impl<'a> Run<'a> {
         Ok(())
     }
 
+    /// Plans the statements of a block, one after another.
     pub fn rest(&mut self, all: &'a [Stmt]) -> Result<(), AllocError>
         ensures { (t : Tables) → OnOk result
             (resumed t self.new ≡ todo_begun t (todo.Rest (statements_in all.now)) self.old) }
@@ -197,6 +198,7 @@ impl<'a> Run<'a> {
         }
     }
 
+    /// Goes on with one side of an `if`, by the last value.
     pub fn choose(&mut self, stmt: &'a Stmt) -> Result<(), AllocError>
         ensures { (t : Tables) → OnOk result
             (resumed t self.new ≡ todo_begun t (todo.Stmt task.Choose (stmt_of stmt.now))
@@ -257,6 +259,7 @@ impl<'a> Run<'a> {
         }
     }
 
+    /// Goes on with a loop's body, or ends the loop, by the last value.
     pub fn test(&mut self, stmt: &'a Stmt) -> Result<(), AllocError>
         ensures { (t : Tables) → OnOk result
             (resumed t self.new ≡ todo_begun t (todo.Stmt task.Test (stmt_of stmt.now)) self.old) }

@@ -1,4 +1,5 @@
--- Facts derived through summaries. This definition doesn't mention walks.
+-- The same facts as those of whole walks, derived one call at a time: what a called function
+-- brings about is derived once, and used at each call.
 use Rattle.std.specs.Prelude.{◌≡◌, ℕ, suc, true, List, Some}
 use Rattle.ir.specs.declared.function.IrFunction.{IrFunction}
 use Rattle.ir.specs.declared.instruction.Instruction.{Instruction}

@@ -18,6 +18,7 @@ pub struct KeptSink<K> {
 }
 
 impl<K: Sink> KeptSink<K> {
+    /// A sink that keeps what is written to the other one; nothing yet.
     pub fn new(alloc: Global, sink: K) -> Self
         ensures { result.sink ≡ sink }
     {

@@ -17,6 +17,7 @@ pub struct KeptSource<S> {
 }
 
 impl<S: Source> KeptSource<S> {
+    /// A source that keeps what is read from the other one; nothing yet.
     pub fn new(alloc: Global, source: S) -> Self
         ensures { result.source ≡ source }
     {

@@ -31,6 +31,7 @@ impl<T> List<T> {
         }
     }
 
+    /// The items.
     pub fn as_slice(&self) -> &[T]
         ensures { result.now ≡ self.now }
     {

@@ -14,6 +14,7 @@ pub struct StdNotes<'a, R: Eprint> {
 }
 
 impl<'a, R: Eprint> StdNotes<'a, R> {
+    /// Notes that go to the runtime's standard error.
     pub fn new(rt: &'a R) -> Self
         ensures { result.faults ≡ 0 }
     {

@@ -36,6 +36,7 @@ impl Text {
         Ok(())
     }
 
+    /// The text so far.
     pub fn as_str(&self) -> &str
         ensures { result.now ≡ self.now }
     {

@@ -1,5 +1,6 @@
 -- Two heaps that are alike for a run have the same run.
-use Rattle.std.proofs.Common.{◌≡◌, ◌≢◌, inl, inr, ⊎_elim, ℕ, zero, suc, ◌<◌, List, [], ◌∷◌, ◌++◌, Option}
+use Rattle.std.proofs.Common.{◌≡◌, ◌≢◌, inl, inr, ⊎_elim, ℕ, zero, suc, ◌<◌, List, [], ◌∷◌, ◌++◌}
+use Rattle.std.proofs.Common.{Option}
 use Rattle.std.proofs.Common.{Some, None, ℤ, Bool, true, false, if◌then◌else◌, pos, ◌+◌, ◌≤◌, ◌*◌}
 use Rattle.std.proofs.Common.{◌+ℤ◌, w64, arith, refl, sym, ap, ◌∙◌, subst}
 use Rattle.std.specs.Int.{int_wrap}
@@ -181,7 +182,8 @@ module _ (image : Image) (end : End) where
           (bare_heap h e ∙ sym h1)
           (subst (λ (y : Words). AreAlike H rest (heap_past h (bare e)) y)
           (bare_heap r e ∙ sym r1) (alike_past H (bare e) rest h r alike1)) in
-          let afterwards = next (noted g o) t (heap_end h both) (heap_end r both) rest inv.1 tail in (
+          let afterwards = next (noted g o) t (heap_end h both) (heap_end r both) rest inv.1 tail
+          in (
             ap (begun both) afterwards.0 ∙ ap (Finished end) (sym inv.2),
             subst (λ (fs : List Effect). (u : ℕ) → u < H → heap_end h fs u ≡ heap_end r fs u)
                 (sym inv.2) (λ u lt. ap (λ (x : Words). x u) (heap_append h both rest)

@@ -183,7 +183,8 @@ module _ (image : Image) (a m : ℕ) (g : Logging) (s : State) (d : Device) (k :
           → PlaysPart why d (turn_events image.parts.sizes a g (heap_in image.parts.sizes d.cache)
           u) b → Opened u → PlaysPart why d0 x0.events b × (k1 ≤ k0 + x0.steps)
       go (Plays es h t) part l = (
-        l.part why b (part_left (events_all image.parts.sizes a g.count heap es) (rest es h t).events
+        l.part why b (part_left (events_all image.parts.sizes a g.count heap es)
+            (rest es h t).events
             why d b part),
         let q = l.steps in omega arith,
       )

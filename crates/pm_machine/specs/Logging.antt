@@ -1,6 +1,7 @@
 -- Which steps of a run take a record first, and the run that they make. A word takes at most one
 -- record in a run. A step that asks for one where the log is full ends the run before it.
-use Rattle.std.specs.Prelude.{ℕ, zero, suc, ◌+◌, ◌++◌, List, [], ◌∷◌, Bool, true, Option, Some, None}
+use Rattle.std.specs.Prelude.{ℕ, zero, suc, ◌+◌, ◌++◌, List, [], ◌∷◌, Bool, true, Option, Some}
+use Rattle.std.specs.Prelude.{None}
 use Rattle.std.specs.Prelude.{if◌then◌else◌, nat_lt, nat_eq, ℤ}
 use Rattle.std.specs.List.{list_any}
 use Rattle.indexmap.specs.IndexSet.{insert_key}
@@ -111,7 +112,8 @@ blank p = record { policy = p; count = 0; words = [] }
 abbrev pub tx_run : Policy → Image → ℕ → Words → ℕ → List ℤ → Run
 tx_run p image k heap tx args = logged_run image k (blank p) (start image tx args) heap
 
--- The records that a finished run takes, put between its effects: what such a run does with its log.
+-- The records that a finished run takes, put between its effects: what such a run does with its
+-- log.
 abbrev pub with_records : (C : ℕ) → Logging → End → List Effect → Run
 with_records C g end [] = Finished end []
 with_records C g end (e ∷ es) = if has_room C g (missing g e)

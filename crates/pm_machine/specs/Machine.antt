@@ -28,8 +28,9 @@ use Rattle.pm_machine.specs.declared.frame.Frame.{Frame}
 use Rattle.pm_machine.specs.Effects.{heap_past}
 use Rattle.pm_machine.specs.Find.{least, looks}
 
--- The open function, the frames below it (the innermost last), the ticks left, the heap lines stored
--- to and not yet flushed, in the order of first stores, and the number of registers of a frame.
+-- The open function, the frames below it (the innermost last), the ticks left, the heap lines
+-- stored to and not yet flushed, in the order of first stores, and the number of registers of a
+-- frame.
 pub record State : Type 0 where
   pub top : Frame
   pub below : List Frame

@@ -77,6 +77,7 @@ impl Frames {
         self.words.clear();
     }
 
+    /// How many functions are open.
     pub fn len(&self) -> usize
         ensures len { result ≡ length self.now.frames }
         ensures most { result ≤ 255 }

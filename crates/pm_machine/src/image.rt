@@ -195,6 +195,7 @@ impl Image {
         &self.parts.functions
     }
 
+    /// The sizes of the pools on which the image runs.
     pub fn sizes(&self) -> &Sizes
         ensures { result.now ≡ self.now.parts.sizes }
     {

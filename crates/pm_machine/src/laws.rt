@@ -5,9 +5,9 @@ ghost use Rattle.pm_machine.specs.Law.{FuelLaw, RecordsLaw, ExactLaw, Agreement,
 ghost use Rattle.pm_machine.specs.Law.{AlikeDueLaw};
 
 /// More fuel doesn't change a run that finished; a run with its records is the run without, with a
-/// record before each effect that takes one, and ends with a full log exactly if these are too many;
-/// heaps that are alike for a run have the same run; the due events of a run on a cache are those of
-/// the run on its heap; and FIND finds the least free slot. The function does nothing.
+/// record before each effect that takes one, and ends with a full log exactly if these are too
+/// many; heaps that are alike for a run have the same run; the due events of a run on a cache are
+/// those of the run on its heap; and FIND finds the least free slot. The function does nothing.
 pub fn machine_laws()
     ensures fuel { FuelLaw }
     ensures records { RecordsLaw }

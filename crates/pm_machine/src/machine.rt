@@ -1,4 +1,5 @@
-//! A run in progress on a device: each step takes the record that it asks for, and plays its events.
+//! A run in progress on a device: each step takes the record that it asks for, and plays its
+//! events.
 
 ghost use Rattle.std.specs.Prelude.{◌≡◌, ◌^◌, ◌<◌, ◌≤◌, ◌+◌, ◌-◌, true, false, IfOk, IfErr, OnOk};
 ghost use Rattle.std.specs.Prelude.{OnErr, IfSome, length, ◌==◌, Some, []};
@@ -214,8 +215,8 @@ impl Machine {
     }
 
     /// One step, after its record if it takes one, on a pool with this attempt. Where the log is
-    /// full, the run ends before the step. After an end or a refusal the machine has to be restarted
-    /// before it is used again.
+    /// full, the run ends before the step. After an end or a refusal the machine has to be
+    /// restarted before it is used again.
     pub fn step_on<P: PmemWork>(
         &mut self,
         image: &Image,

@@ -56,9 +56,9 @@ pub(crate) enum Progress {
     Ended(End),
 }
 
-/// A run in progress: the open function, those below it, the ticks left, the LOG instructions done,
-/// and the dirty lines. The memory for its frames is allocated at the start; the next function to
-/// be opened gets the spare registers.
+/// A run in progress: the open function, those below it, the ticks left, and the dirty lines. The
+/// memory for its frames is allocated at the start; the next function to be opened gets the spare
+/// registers.
 #[derive(Drop)]
 pub(crate) struct Processor {
     top: Frame,

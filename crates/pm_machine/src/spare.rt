@@ -59,7 +59,8 @@ impl Spare {
     fn restart(&mut self, image: &Image, tx: u64, args: &[i64]) -> bool
         requires first { 1 ≤ tx }
         requires last { tx ≤ length image.now.parts.txs }
-        ensures { result ≡ true → IfSome self.new.kept (λ m. m.processor ≡ start image.now tx args.now) }
+        ensures { result ≡ true → IfSome self.new.kept
+            (λ m. m.processor ≡ start image.now tx args.now) }
     {
         match &mut self.kept {
             Some(machine) => machine.restart(image, tx, args),

@@ -34,7 +34,7 @@ are_valid l image (suc i) = are_valid l image i && is_valid l image i
 abbrev pub is_stamp : ℤ → ℤ → Bool
 is_stamp attempt x = int_le (pos 0) x && int_le x (attempt +ℤ pos 1)
 
--- the word is the number of a heap word; of a heap word that is a header
+-- the word is the address of a heap word
 abbrev pub in_heap : Sizes → ℤ → Bool
 in_heap s (pos w) = nat_lt w (heap_words s)
 in_heap s (negsuc n) = false
@@ -42,6 +42,7 @@ in_heap s (negsuc n) = false
 abbrev pub is_header : Sizes → ℕ → Bool
 is_header s w = nat_le (8 * root_lines s) w && ((w - 8 * root_lines s) % SLOT_WORDS == 0)
 
+-- the word is the heap address of a header
 abbrev pub names_header : Sizes → ℤ → Bool
 names_header s (pos w) = nat_lt w (heap_words s) && is_header s w
 names_header s (negsuc n) = false

@@ -159,7 +159,7 @@ fn digest_fault(bytes: &[u8], wanted: &Wanted) -> Option<ImageFault>
 }
 
 /// The digest: words 8 to 11.
-fn digest_in(bytes: &[u8]) -> [i64; 4]
+pub fn digest_in(bytes: &[u8]) -> [i64; 4]
     requires { 96 ≤ length bytes.now }
     ensures { result ≡ fault_of.digest_in bytes.now }
 {

@@ -17,7 +17,7 @@ mod wanted;
 
 pub use bytes::image_bytes;
 pub use fingerprint::digest;
-pub use head::magic;
+pub use head::{digest_in, magic};
 pub use image_laws::{moved_law, opens_law, restored_law};
 pub use limits::{NUMBER_LIMIT, Sizes};
 pub use measures::{heap_start, heap_words, pool_lines, slot_word};

@@ -43,24 +43,28 @@ impl Sizes {
         })
     }
 
+    /// How many slots a pool has.
     pub fn slots(&self) -> u64
         ensures { result ≡ self.now.slots }
     {
         self.slots
     }
 
+    /// How many records a pool's log has.
     pub fn records(&self) -> u64
         ensures { result ≡ self.now.records }
     {
         self.records
     }
 
+    /// How many words the root has.
     pub fn root_words(&self) -> u64
         ensures { result ≡ self.now.root_words }
     {
         self.root_words
     }
 
+    /// How many ticks a call has.
     pub fn ticks(&self) -> u64
         ensures { result ≡ self.now.ticks }
     {

@@ -421,7 +421,8 @@ module _ (program : Program) (super : Words) (agrees : Agrees program) (h : Word
               (subst (λ (x : Answer). FinishesNone s x t) its.answer none)
 
         from_trap : (m : Bool) (kind : TrapKind)
-            → IsEnd pool call heap (heap_end heap es) (result_of (policy_of m) s.last (Trapped kind))
+            → IsEnd pool call heap (heap_end heap es)
+            (result_of (policy_of m) s.last (Trapped kind))
             one
             → Keeps s b t
         from_trap true kind seen = from_retired seen.seal_is seen.good.done seen.good.unsealed

@@ -149,7 +149,8 @@ module _ (program : Program) (super : Words) (agrees : Agrees program)
   rested found h holds before standing finds =
       let un = by_owed false (not_owing program e
       (is_unsealed one found.done before.good.done before.good.unsealed)) in
-      let done = rest_recovers program super e found h on rest holds before EndPool un.tx_answer b k k1
+      let done = rest_recovers program super e found h on rest holds before EndPool un.tx_answer b
+      k k1
       un.recovered in (
         done.0,
         powers_of program s found done.0 one a before.good.mark finds

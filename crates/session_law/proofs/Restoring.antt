@@ -35,8 +35,8 @@ abbrev pub Restores : Program → Words → Words → Type 0
 Restores program h image =
     (w : ℕ) → w < heap_words (sizes_of program) → opened_heap program image w ≡ h w
 
--- an image in which a call isn't counted yet or, of one without the mark, isn't sealed yet, restores
--- the heap from before it
+-- an image in which a call isn't counted yet or, of one without the mark, isn't sealed yet,
+-- restores the heap from before it
 abbrev pub KeepsIn : (marked : Bool) → Program → (done : ℕ) → (h image : Words) → Type 0
 KeepsIn true program done h image = image DONE ≡ pos done → Restores program h image
 KeepsIn false program done h image =
@@ -138,4 +138,5 @@ module _ (program : Program) (super : Words) where
       (result_of (policy_of marked) last end) image
       → KeepsIn marked program call.done h image
   cut_keeps true call es h h' last end image cut = cut_restores call es h h' last end image cut
-  cut_keeps false call es h h' last end image cut = unsealed_restores call es h h' last end image cut
+  cut_keeps false call es h h' last end image cut = unsealed_restores call es h h' last end image
+      cut

@@ -1,6 +1,6 @@
 -- A program's image agrees with its source if, from every heap with valid headers, the run of each
--- transaction without its log is sound, ends as the source says on the heap's pool, and takes as many
--- records as the source's stores ask for. Each compiled program agrees with its source.
+-- transaction without its log is sound, ends as the source says on the heap's pool, and takes as
+-- many records as the source's stores ask for. Each compiled program agrees with its source.
 use Rattle.std.specs.Prelude.{ℕ, ◌^◌, ◌<◌, ◌≤◌, ◌≡◌, List, Bool, length, Some, ℤ}
 use Rattle.cache_model.specs.Cache.{Words}
 use Rattle.pool_map.specs.PoolFits.{words_of}
@@ -30,8 +30,8 @@ Matches program (Done pool value) (Trapped k) h = ⊥
 Matches program (Trap trap) (Halted v) h = ⊥
 Matches program (Trap trap) (Trapped k) h = k ≡ trap
 
--- The run of a transaction from a heap, without its log: it ends as the source says. With its log it
--- takes this number of records, marked or not, where the log has room for them.
+-- The run of a transaction from a heap, without its log: it ends as the source says. With its log
+-- it takes this number of records, marked or not, where the log has room for them.
 pub record RunsAs (program : Program) (h : Words) (tx : ℕ) (args : List ℤ) : Type 0 where
   pub end : End
   pub effects : List Effect

@@ -195,7 +195,7 @@ abbrev pub MarksAs : (marked : Bool) → Program → SourceState → Pending →
 MarksAs marked program s owed kind =
     (marked ≡ false) × TrapsAs marked program s owed.tx owed.args kind
 
--- the pool has a mark: the trap of the owed transaction, or one that was answered before
+-- the pool ended with this trap: just now, by the owed transaction, or earlier
 abbrev pub IsMarked : Standing → Program → SourceState → TrapKind → Type 0
 IsMarked Ready program s kind = ⊥
 IsMarked (Down None) program s kind = ⊥

@@ -79,7 +79,8 @@ module _ (p : Policy) (image : Image) (tx : ℕ) (args : List ℤ) (d b : Device
     same : m.cache ≡ cache_after
     same = all_cache seal_of d m sealed
 
-    all : PlaysAll m (due_run p image state m.cache) b → PlaysAll d (due_call p image tx args d.cache) b
+    all : PlaysAll m (due_run p image state m.cache) b
+        → PlaysAll d (due_call p image tx args d.cache) b
     unfolding due_call
     all h = all_append seal_of (due_run p image state cache_after) d m b sealed
         (subst (λ (c : Cache). PlaysAll m (due_run p image state c) b) same h)
@@ -91,7 +92,8 @@ module _ (p : Policy) (image : Image) (tx : ℕ) (args : List ℤ) (d b : Device
     right : (why : Refusal) → PlaysPart why m (due_run p image state m.cache) b
         → PlaysPart why d (due_call p image tx args d.cache) b
     unfolding due_call
-    right why h = part_right seal_of (due_run p image state cache_after) why d m b sealed (went why h)
+    right why h = part_right seal_of (due_run p image state cache_after) why d m b sealed
+        (went why h)
 
     ended : (e : End) (k k1 : ℕ) → HasSettled e p image state m b k k1
         → HasCalled e p image tx args d b k k1

@@ -1,5 +1,5 @@
--- The due events of a call: seal, run, and what follows its end. Each part is a function of the cache
--- in which it begins.
+-- The due events of a call: seal, run, and what follows its end. Each part is a function of the
+-- cache in which it begins.
 use Rattle.std.specs.Prelude.{ℕ, ◌+◌, ◌++◌, List, take, ℤ}
 use Rattle.std.specs.Int.{w64, cast_signed}
 use Rattle.cache_model.specs.Event.{CacheEvent}

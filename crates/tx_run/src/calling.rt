@@ -48,8 +48,9 @@ fn run<P: PmemWork, L: Ledger>(
 /// the image. The mark is checked first, then the numbers; then the kept machine is started, which
 /// takes memory for its frames only the first time, the arguments are sealed, the machine runs, and
 /// its value is retired, or its trap marked, or the call is rolled back, as the policy says. On a
-/// device that is off the answer is `Off(Unsealed)`, and nothing has changed. A call that is refused
-/// takes no step, and any other at most those of its run, and one for each record that is put back.
+/// device that is off the answer is `Off(Unsealed)`, and nothing has changed. A call that is
+/// refused takes no step, and any other at most those of its run, and one for each record that is
+/// put back.
 pub fn call<P: PmemWork, L: Ledger>(
     alloc: Global,
     spare: &mut Spare,

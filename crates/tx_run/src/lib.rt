@@ -1,7 +1,8 @@
 //! One call of a transaction: its arguments are sealed, the machine runs, and the call is retired,
 //! or, if the run trapped, the pool is marked or the call rolled back. It rests on the machine of
-//! `pm_machine` and on the argument record of `args_log`. Its one contract for the crates above: a call plays exactly the
-//! events that `specs/Due.antt` gives it, or the first of these up to the one that was refused.
+//! `pm_machine` and on the argument record of `args_log`. Its one contract for the crates above: a
+//! call plays exactly the events that `specs/Due.antt` gives it, or the first of these up to the
+//! one that was refused.
 #![tactic(auto)]
 
 mod answer;

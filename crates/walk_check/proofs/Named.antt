@@ -200,7 +200,7 @@ called_by ir u g args (Some v) well is within takes = record {
   within = within;
 }
 
--- an instruction of the function u
+-- each instruction of well formed code is well formed
 pub well_at : (ir : Ir) (f p : ℕ) (u : IrFunction) (i : Instruction) → IsWellFormed ir
     → slice_get ir.functions f ≡ Some u → slice_get u.code p ≡ Some i
     → IsInstruction ir u.registers (length u.code) i

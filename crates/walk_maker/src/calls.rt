@@ -6,14 +6,14 @@ ghost use Rattle.walk_maker.specs.inside.Calls as calls;
 
 use ir::{Back, Fact as WalkFact};
 
-/// The first place of a register among the arguments.
+/// The number of the first argument that is this register.
 fn first_at(args: &[u32], register: u32) -> Option<usize>
     ensures { result ≡ position (λ a. a == register) args.now }
 {
     args.iter().position(|a| *a == register)
 }
 
-/// The origin of a fact after a call.
+/// Where a fact right after a call comes from: the called function, or the place before the call.
 pub(crate) fn back(parameters: u32, to: u32, args: &[u32], after: WalkFact) -> Back
     ensures { result ≡ calls.back_in parameters to args.now after }
 {
@@ -35,7 +35,7 @@ pub(crate) fn back(parameters: u32, to: u32, args: &[u32], after: WalkFact) -> B
     }
 }
 
-/// The origin of a fact about the argument at a place.
+/// Where the fact about the argument at a place comes from.
 fn from_place(parameters: u32, place: usize, kind: u32, field: u32) -> Back
     ensures { result ≡ calls.from_place parameters place kind field }
 {
@@ -50,7 +50,7 @@ fn from_place(parameters: u32, place: usize, kind: u32, field: u32) -> Back
     }
 }
 
-/// The fact at a call that gives a fact at the called function's entry.
+/// The fact that holds at the call if this one is to hold at the called function's entry.
 pub(crate) fn at_call(args: &[u32], inside: WalkFact) -> WalkFact
     ensures { result ≡ ir_table.at_call args.now inside }
 {
@@ -71,7 +71,8 @@ pub(crate) fn at_call(args: &[u32], inside: WalkFact) -> WalkFact
     }
 }
 
-/// The fact that must hold at the called function's return.
+/// The fact that has to hold at the called function's return, so that this one holds after the
+/// call.
 pub(crate) fn exit_of(origin: Back) -> WalkFact
     ensures { result ≡ calls.exit_of origin }
 {
@@ -81,7 +82,8 @@ pub(crate) fn exit_of(origin: Back) -> WalkFact
     }
 }
 
-/// The fact at a call from which a fact after it comes, through a piece that begins with `first`.
+/// The fact at a call from which a fact after it follows, through a piece of a walk whose first
+/// fact is `first`.
 pub(crate) fn before_call(origin: Back, args: &[u32], first: WalkFact, after: WalkFact) -> WalkFact
     ensures { result ≡ calls.before_call origin args.now first after }
 {

@@ -13,14 +13,15 @@ use ir::{Back, Fact as WalkFact, Instruction, Ir, IrFunction, Origins};
 use std::alloc::AllocError;
 use walk_check::{Piece, binds, first_fact, follows, is_there, last_fact, leads, origins, same};
 
-/// An entry with its number in the table.
+/// An entry of the table, with its number there.
 #[derive(Clone, Copy)]
 pub(crate) struct Later {
     pub(crate) number: usize,
     pub(crate) entry: Entry,
 }
 
-/// A call that is passed: its place, its function, and the origin of the fact after it.
+/// A call on the way to a later fact: its place, the function that it calls, and where the later
+/// fact comes from.
 #[derive(Clone, Copy)]
 struct Passed {
     place: u32,
@@ -28,7 +29,7 @@ struct Passed {
     origin: Back,
 }
 
-/// The spot that goes on to the later one from a place of its function.
+/// The entry for a fact at a place of the same function, with a link to the later entry.
 fn next_to(later: Later, place: u32, fact: WalkFact, through: Option<u64>) -> Entry
     ensures { result ≡ expand.next_to later place fact through }
 {
@@ -41,7 +42,7 @@ fn next_to(later: Later, place: u32, fact: WalkFact, through: Option<u64>) -> En
     }
 }
 
-/// Adds a spot if the later one follows from it.
+/// Adds a fact at a place if the later fact follows from it.
 fn try_step(
     ir: &Ir,
     passed: &[Piece],
@@ -62,7 +63,7 @@ fn try_step(
     }
 }
 
-/// Adds the spots at a place with the named facts.
+/// Adds those of these facts at a place from which the later fact follows.
 fn try_origins(
     ir: &Ir,
     passed: &[Piece],
@@ -90,7 +91,7 @@ fn try_origins(
     }
 }
 
-/// Adds the returns of a function, with the fact that its piece must end with.
+/// Adds each return of a function, with the fact that has to hold there.
 fn add_returns(
     function: u32,
     exit: WalkFact,
@@ -131,7 +132,8 @@ fn add_return(
     }
 }
 
-/// Adds the spot at a call with the fact that a piece carries past the call.
+/// Adds the fact at a call from which a piece of a walk leads, through the called function, to the
+/// later fact.
 fn try_through(
     ir: &Ir,
     passed: &[Piece],
@@ -155,7 +157,7 @@ fn try_through(
     }
 }
 
-/// Adds the spots at a call with the facts that the pieces so far carry past the call.
+/// Adds the facts at a call from which the pieces that are known so far lead to the later fact.
 fn try_pieces(
     ir: &Ir,
     passed: &[Piece],
@@ -174,8 +176,8 @@ fn try_pieces(
     Ok(())
 }
 
-/// Adds what may lead past a call: the returns of the called function, and the spots at the call
-/// with the facts that the pieces so far carry past it.
+/// Adds what may lead past a call to the later fact: the returns of the called function, and the
+/// facts at the call from which known pieces lead there.
 fn try_past(
     ir: &Ir,
     passed: &[Piece],
@@ -209,7 +211,7 @@ fn try_past(
     try_pieces(ir, passed, body, later, call, args, table)
 }
 
-/// Adds the spots at a place of the same function, before the later one.
+/// Adds each fact at `place` from which the later fact follows in one step.
 fn try_before(
     ir: &Ir,
     passed: &[Piece],
@@ -234,7 +236,8 @@ fn try_before(
     }
 }
 
-/// The first place from `at` on that may lead to `place`, if no jump before `jump` leads there.
+/// The first place, from `at` on, of an instruction that may lead to `place`. No jump before
+/// `jump` leads there.
 fn candidate(place: usize, at: usize, jump: usize) -> usize
     ensures { result ≡ lands.candidate place at jump }
 {
@@ -251,8 +254,8 @@ fn later_of(at: usize, jump: usize) -> usize
     if at < jump { jump } else { at }
 }
 
-/// The bound for the places after `next`: no jump before it leads to `place`. `jump` is the bound
-/// for `next` itself.
+/// A place before which no jump leads to `place`, for the places after `next`. `jump` is such a
+/// place for `next` itself.
 fn jump_after(
     jumps: &AllJumps,
     function: u32,
@@ -270,7 +273,8 @@ fn jump_after(
     }
 }
 
-/// Adds the spots of the same function, before the later one.
+/// Adds each fact, at whatever place of the same function, from which the later fact follows in
+/// one step.
 pub(crate) fn try_all_before(
     ir: &Ir,
     jumps: &AllJumps,
@@ -304,7 +308,7 @@ pub(crate) fn try_all_before(
     Ok(())
 }
 
-/// Adds the spot at a call, if the call enters the function at whose entry the later spot is.
+/// Adds the fact at a call from which the later fact, at the called function's entry, follows.
 fn try_caller(
     ir: &Ir,
     body: &IrFunction,
@@ -346,7 +350,7 @@ fn try_caller(
     }
 }
 
-/// Adds the spots at the calls in one function.
+/// Adds these facts for each call in one function.
 fn try_callers_in(
     ir: &Ir,
     body: &IrFunction,
@@ -374,7 +378,7 @@ fn try_callers_in(
     Ok(())
 }
 
-/// Adds the spots at all calls of the function at whose entry the later spot is.
+/// Adds the facts, at all calls of a function, from which the later fact at its entry follows.
 pub(crate) fn try_callers(
     ir: &Ir,
     callee: &IrFunction,

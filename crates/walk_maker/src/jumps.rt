@@ -9,19 +9,19 @@ use ir::{Instruction, IrFunction};
 use nvm_base::List;
 use std::alloc::{AllocError, Global};
 
-/// The jumps of a function.
+/// Where the jumps of a function lead, as far as the search needs it.
 #[derive(Drop)]
 pub(crate) struct Jumps {
-    /// For each place, a bound: no jump before it leads there.
+    /// For each place a number: no jump that stands before it leads to the place.
     firsts: List<usize>,
-    /// For each jump, a bound: no jump between leads to the same place.
+    /// For each jump a number: between it and the jump no other jump leads to the same place.
     nexts: List<usize>,
 }
 
-/// The jumps of each function.
+/// What is known of the jumps of each function.
 pub(crate) type AllJumps = List<Jumps>;
 
-/// A bound: before it, no jump of the function leads to the place.
+/// A number before which no jump of the function leads to the place.
 pub(crate) fn first_jump(jumps: &AllJumps, function: u32, place: u32) -> usize
     ensures { result ≡ lands.first_in jumps.now function place }
 {
@@ -31,7 +31,7 @@ pub(crate) fn first_jump(jumps: &AllJumps, function: u32, place: u32) -> usize
     }
 }
 
-/// A bound: between a jump and it, no other jump of the function leads to where the jump leads.
+/// A number between which and a jump no other jump of the function leads to where the jump leads.
 pub(crate) fn next_jump(jumps: &AllJumps, function: u32, jump: usize) -> usize
     ensures { result ≡ lands.next_in jumps.now function jump }
 {
@@ -91,7 +91,7 @@ fn filled(alloc: Global, count: usize, number: usize) -> Result<List<usize>, All
     Ok(numbers)
 }
 
-/// Notes the instruction at a place. Those after it were noted before.
+/// Notes where the instruction at a place leads. Those after it were noted before.
 fn note(jumps: &mut Jumps, place: usize, instruction: &Instruction)
     ensures { jumps.new ≡ lands.noted (lands.landing_of instruction.now) place jumps.old }
 {

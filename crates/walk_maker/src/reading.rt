@@ -8,8 +8,8 @@ use ir::{Fact as WalkFact, IrFunction};
 use std::alloc::{AllocError, Global};
 use walk_check::{Fact, Piece, Pieces, Step, StepList, begun};
 
-/// The fact at the start of a piece whose walk has `fact` at the function's entry: nothing, if each
-/// walk has it there.
+/// The first fact of a piece whose walk has `fact` at the function's entry. It is `start` if each
+/// walk has the fact there.
 pub(crate) fn entry_fact(opens: bool, body: &IrFunction, fact: WalkFact) -> WalkFact
     ensures { result ≡ reading.entry_fact opens body.now fact }
 {
@@ -20,7 +20,7 @@ pub(crate) fn entry_fact(opens: bool, body: &IrFunction, fact: WalkFact) -> Walk
     }
 }
 
-/// The entry to which a walk goes on within its function.
+/// The number of the entry to which the walk goes on within the same function, if it does.
 fn next_of(link: Link) -> Option<usize>
     ensures { result ≡ reading.next_of link }
 {
@@ -30,7 +30,7 @@ fn next_of(link: Link) -> Option<usize>
     }
 }
 
-/// Appends the steps from an entry on.
+/// Appends the steps of a walk, from an entry on, up to the end of its piece.
 fn push_steps(entries: &[Entry], number: usize, steps: &mut StepList) -> Result<(), AllocError>
     ensures { OnOk result (steps.new
         ≡ steps.old ++ reading.steps_of entries.now (length entries.now) number) }
@@ -50,7 +50,7 @@ fn push_steps(entries: &[Entry], number: usize, steps: &mut StepList) -> Result<
     Ok(())
 }
 
-/// The number of the last entry of a walk's piece, from an entry on.
+/// The number of the last entry of a walk that is in the same piece as this one.
 #[tactic(auto, using(crate::proofs::Fuel::end_more))]
 fn end_of(entries: &[Entry], number: usize) -> usize
     ensures { result ≡ reading.piece_end entries.now (length entries.now) number }
@@ -74,7 +74,7 @@ fn next_from(entries: &[Entry], number: usize) -> Option<usize>
     }
 }
 
-/// The entry in a called function that a walk enters from an entry at a call.
+/// The entry in the called function with which a walk goes on from a call.
 fn entered_from(entries: &[Entry], number: usize) -> Option<usize>
     ensures { result ≡ reading.entered_from (slice_get entries.now number) }
 {
@@ -89,7 +89,7 @@ fn entered_from(entries: &[Entry], number: usize) -> Option<usize>
     }
 }
 
-/// The piece that begins at an entry.
+/// The piece of a walk that begins at an entry.
 pub(crate) fn piece_of(
     alloc: Global,
     functions: &[IrFunction],
@@ -118,7 +118,8 @@ pub(crate) fn piece_of(
     })
 }
 
-/// Whether each walk has an entry's fact at its function's entry.
+/// Whether each walk that comes to an entry's function has the entry's fact at the function's
+/// entry.
 fn begins(functions: &[IrFunction], opens: bool, entry: Entry) -> bool
     ensures { result
         ≡ reading.has_at_entry opens entry.fact (slice_get functions.now entry.function) }
@@ -129,7 +130,7 @@ fn begins(functions: &[IrFunction], opens: bool, entry: Entry) -> bool
     }
 }
 
-/// The pieces of the walk that begins at an entry.
+/// The pieces of the walk that begins at an entry, in their order.
 pub(crate) fn pieces_of(
     alloc: Global,
     functions: &[IrFunction],

@@ -22,7 +22,7 @@ use ir::{Fact as WalkFact, Instruction, Ir, Site, Target};
 use std::alloc::{AllocError, Global};
 use walk_check::{Certificate, Pieces, Reason, Reasons, Walk, instruction_at};
 
-/// The entry with which a search begins: a site with a fact.
+/// The entry from which a search goes back: a site, and the fact that is to hold there.
 pub(crate) fn goal_at(site: Site, fact: WalkFact) -> Entry
     ensures { result ≡ judged.goal_at site fact }
 {
@@ -63,7 +63,7 @@ fn walk_to(
     }
 }
 
-/// The fact that a store's target isn't surely written.
+/// The fact that the target of a store isn't surely written.
 pub(crate) fn unwritten(target: Target) -> WalkFact
     ensures { result ≡ unwritten target }
 {
@@ -82,7 +82,7 @@ pub(crate) fn unwritten(target: Target) -> WalkFact
     }
 }
 
-/// The fact that a store's class was read.
+/// The fact that a field of the store's class was read where it wasn't surely written.
 pub(crate) fn read(target: Target) -> WalkFact
     ensures { result ≡ read_fact target }
 {
@@ -140,7 +140,7 @@ fn fill_reason(
     }
 }
 
-/// What is written at a site, as far as its log depends on it.
+/// What is written at a site, as far as it decides whether it is logged.
 #[derive(Clone, Copy, PartialEq, Eq)]
 pub(crate) enum Kind {
     Store(Target),
@@ -184,7 +184,7 @@ fn reason_of(
     }
 }
 
-/// Why a site is logged, if the marks log it. So nothing is sought of the others.
+/// The reason of a site that the marks log. Other sites aren't looked at.
 #[tactic(auto, using(crate::proofs::Judged::unmarked))]
 fn marked_reason(
     alloc: Global,
@@ -208,7 +208,7 @@ fn marked_reason(
     }
 }
 
-/// Appends a site with its reason, if it has one.
+/// Appends a site and its reason, if there is one.
 fn push_reason(reasons: &mut Reasons, site: Site, reason: Option<Reason>) -> Result<(), AllocError>
     ensures { OnOk result (reasons.new ≡ judged.with_reason reasons.old site reason) }
 {
@@ -218,7 +218,8 @@ fn push_reason(reasons: &mut Reasons, site: Site, reason: Option<Reason>) -> Res
     }
 }
 
-/// A certificate of the logged sites among these, in their order, each sought on its own.
+/// A certificate of those of these sites that are logged, in their order. Each is searched for by
+/// itself.
 fn each_certificate(
     alloc: Global,
     ir: &Ir,

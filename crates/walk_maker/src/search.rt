@@ -13,7 +13,7 @@ use ir::{Fact as WalkFact, Ir, IrFunction};
 use std::alloc::{AllocError, Global};
 use walk_check::{Piece, Pieces, first_fact, last_fact, same};
 
-/// Whether a piece of the function goes from one fact to the other.
+/// Whether the function has a piece of a walk from the one fact to the other.
 fn is_known(passed: &[Piece], function: u32, first: WalkFact, last: WalkFact) -> bool
     ensures { result ≡ search.is_known passed.now function first last }
 {
@@ -28,7 +28,7 @@ fn goes_from(piece: &Piece, function: u32, first: WalkFact, last: WalkFact) -> b
     piece.function == function && (same(first_fact(piece), first) && same(last_fact(piece), last))
 }
 
-/// Adds the piece that begins at an entry, unless there is one between the same facts.
+/// Adds the piece that begins at an entry, unless one with the same first and last fact is there.
 fn add_piece(
     alloc: Global,
     ir: &Ir,
@@ -50,7 +50,8 @@ fn add_piece(
     passed.push(piece)
 }
 
-/// At a function's entry, adds the calls from which a walk comes, or the piece that is found.
+/// At a function's entry: adds the calls by which a walk comes there, or the piece of a walk that
+/// is now complete.
 fn try_entry(
     alloc: Global,
     ir: &Ir,
@@ -73,7 +74,7 @@ fn try_entry(
     }
 }
 
-/// Adds what comes before an entry.
+/// Adds each entry from which a walk goes on to this one.
 pub(crate) fn expand(
     alloc: Global,
     ir: &Ir,
@@ -95,8 +96,8 @@ pub(crate) fn expand(
     try_entry(alloc, ir, body, later, table, passed)
 }
 
-/// Goes through the table once, and through what it adds. More entries than memory can hold count
-/// as want of memory.
+/// Looks once at each entry of the table, those that are added meanwhile too. A table that
+/// outgrows memory counts as want of memory.
 fn sweep(
     alloc: Global,
     ir: &Ir,
@@ -119,8 +120,8 @@ fn sweep(
     Err(AllocError)
 }
 
-/// Goes through the table, and through what it adds, until a walk begins at an entry. So a walk
-/// that is near is found without the rest.
+/// Looks at each entry in turn until one is at the entry of a transaction. So a short walk is
+/// found before the rest is looked at.
 fn seek(
     alloc: Global,
     ir: &Ir,
@@ -165,15 +166,15 @@ pub(crate) fn is_start(functions: &[IrFunction], entry: Entry) -> bool
     }
 }
 
-/// The number of the first entry at which a walk begins.
+/// The number of the first entry that is at a transaction's entry.
 fn first_start(functions: &[IrFunction], table: &[Entry]) -> Option<usize>
     ensures { result ≡ position (search.is_start functions.now) table.now }
 {
     table.iter().position(|entry| is_start(functions, *entry))
 }
 
-/// Sweeps until there is an entry at which a walk begins, or nothing new is found. More sweeps than
-/// memory can hold entries count as want of memory.
+/// Looks at the table again and again, until an entry is at a transaction's entry or nothing new
+/// is added. More rounds than there can be entries count as want of memory.
 fn sweep_on(
     alloc: Global,
     ir: &Ir,
@@ -200,8 +201,8 @@ fn sweep_on(
     Err(AllocError)
 }
 
-/// The number of an entry at which a walk begins, if there is any. If there is none, the table has
-/// all entries that lead to the site.
+/// The number of an entry that is at a transaction's entry, if there is one. If there is none, the
+/// table has every entry that leads to the site.
 pub(crate) fn find_start(
     alloc: Global,
     ir: &Ir,

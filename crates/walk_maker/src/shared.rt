@@ -17,7 +17,7 @@ use nvm_base::List;
 use std::alloc::{AllocError, Global};
 use walk_check::{Certificate, Pieces, Reason, Reasons, Walk, check, instruction_at};
 
-/// Up to this number of logged sites the walks are sought one by one, and are short.
+/// Up to this number of logged sites each has a search of its own, which gives short walks.
 const FEW: usize = 32;
 
 /// Sites, in order.
@@ -34,7 +34,7 @@ fn push_marked(table: &MarkTable, site: Site, marked: &mut SiteList) -> Result<(
     }
 }
 
-/// The sites among these that the marks log.
+/// Those of these sites that the marks log.
 pub(crate) fn marked_among(
     alloc: Global,
     table: &MarkTable,
@@ -49,7 +49,7 @@ pub(crate) fn marked_among(
     Ok(marked)
 }
 
-/// A walk to a site with a fact.
+/// A walk to a site at which a fact holds.
 fn walk_over(
     alloc: Global,
     ir: &Ir,
@@ -127,7 +127,7 @@ fn reason_over(
     }
 }
 
-/// A reason for each of the sites, if one is found for each.
+/// A reason for each of the sites, or nothing if one of them has none.
 fn reasons_over(
     alloc: Global,
     ir: &Ir,
@@ -151,8 +151,8 @@ fn reasons_over(
     Ok(Some(reasons))
 }
 
-/// A certificate that lists the sites, if these aren't few and the one that is made keeps the
-/// checker's rules.
+/// A certificate that lists the sites. It is nothing if there are few sites, or if the one that
+/// was made breaks a rule of the checker.
 pub(crate) fn shared_certificate(
     alloc: Global,
     ir: &Ir,

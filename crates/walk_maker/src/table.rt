@@ -11,15 +11,16 @@ use std::alloc::{AllocError, Global};
 use std::marker::Model;
 use walk_check::{Step, same, told};
 
-/// What a walk is to reach: the site, or a return of the spot's function with a fact.
+/// Where a search wants to come: to the site; or to a return of the function with this fact.
 #[derive(Clone, Copy)]
 pub(crate) enum Aim {
     ToSite,
     ToReturn(WalkFact),
 }
 
-/// How a walk goes on from a spot: not at all, since it is at its aim; to an earlier spot of the
-/// table, perhaps through a piece that passes a call; or into a call, to an earlier spot.
+/// How a walk goes on from an entry: not at all, since it is where the search wanted to come; to
+/// an entry that was found before, perhaps past a call whose piece has this number; or into the
+/// called function, at an entry that was found before.
 #[derive(Clone, Copy)]
 pub(crate) enum Link {
     End,
@@ -27,7 +28,7 @@ pub(crate) enum Link {
     Enter(usize),
 }
 
-/// A fact at a place of a function, from which a walk can reach the aim.
+/// A fact at a place of a function, from which a walk leads to where the search wanted to come.
 #[derive(Clone, Copy)]
 pub(crate) struct Entry {
     pub(crate) aim: Aim,
@@ -40,15 +41,15 @@ pub(crate) struct Entry {
 /// How many buckets a new table has.
 pub(crate) const BUCKETS: usize = 1024;
 
-/// The entries, in the order in which they were found: those near the aim first. A spot is sought
-/// among the entries of its bucket alone, from the last one back.
+/// The entries, in the order in which they were found. To find a fact at a place, only the entries
+/// of its bucket are looked at, the last one first.
 #[derive(Drop)]
 pub(crate) struct Table {
     all: List<Entry>,
-    /// For each bucket, a number above the numbers of its entries.
+    /// For each bucket, a number above that of its last entry.
     lasts: List<usize>,
-    /// For each entry, a number above those of the earlier entries in its bucket. The list ends
-    /// where memory lacked.
+    /// For each entry, a number above that of the one before it in its bucket. The list ends where
+    /// memory was wanting.
     befores: List<usize>,
 }
 
@@ -64,7 +65,7 @@ impl Model for Table {
     ghost invariant = { λ t. IsChained (length t.lasts) t.all t.lasts t.befores };
 }
 
-/// What is known of a spot after a look at one entry: it is in the table, or it isn't, or it isn't
+/// What one look tells of a fact at a place: the entry is it; it isn't in the table; or it isn't
 /// among the entries from a number on.
 #[derive(Clone, Copy)]
 enum Look {
@@ -124,7 +125,7 @@ impl Table {
         put(&mut self.all, &mut self.lasts, &mut self.befores, entry)
     }
 
-    /// The number of an entry of the same spot, if there is one.
+    /// The number of the entry with the same aim, function, place and fact, if there is one.
     pub(crate) fn number_of(&self, entry: Entry) -> Option<usize> {
         let entries = self.all.as_slice();
         let bucket = bucket_of(self.lasts.as_slice().len(), entry);
@@ -139,7 +140,7 @@ impl Table {
         None
     }
 
-    /// Adds an entry, unless its spot is in the table.
+    /// Adds an entry, unless one with the same aim, function, place and fact is there.
     fn insert(&mut self, entry: Entry) -> Result<(), AllocError>
         ensures { OnOk result (self.new ≡ table.added entry self.old) }
     {
@@ -161,7 +162,7 @@ fn table_of(alloc: Global, entries: &[Entry], buckets: usize) -> Result<Table, A
     Ok(table)
 }
 
-/// Gives a table more buckets, if it has many entries for those that it has.
+/// Makes more buckets where they have become full.
 pub(crate) fn make_room(alloc: Global, table: &mut Table) -> Result<(), AllocError>
     ensures { OnOk result (table.new ≡ table.old) }
 {
@@ -171,7 +172,7 @@ pub(crate) fn make_room(alloc: Global, table: &mut Table) -> Result<(), AllocErr
     Ok(())
 }
 
-/// A 0 for each bucket.
+/// Empty buckets: a 0 for each.
 fn zeros(alloc: Global, buckets: usize) -> Result<List<usize>, AllocError> {
     let mut numbers = List::new(alloc);
     for _ in 0..buckets {
@@ -180,7 +181,7 @@ fn zeros(alloc: Global, buckets: usize) -> Result<List<usize>, AllocError> {
     Ok(numbers)
 }
 
-/// Puts a number at the end, if there is memory.
+/// Puts a number at the end, or leaves the list as it is where memory is wanting.
 fn keep(numbers: &mut List<usize>, number: usize)
     ensures { buckets.IsNoted numbers.old number numbers.new }
 {
@@ -190,7 +191,7 @@ fn keep(numbers: &mut List<usize>, number: usize)
     }
 }
 
-/// Puts a number at the end, if the list has `count` numbers.
+/// Puts a number at the end of a list that has exactly `count` numbers.
 fn keep_at(numbers: &mut List<usize>, count: usize, number: usize)
     ensures { buckets.IsNotedAt numbers.old count number numbers.new }
 {
@@ -199,7 +200,7 @@ fn keep_at(numbers: &mut List<usize>, count: usize, number: usize)
     }
 }
 
-/// Writes another number at a place, if there is this place.
+/// Changes the number at a place, if the list is so long.
 pub(crate) fn write_at(numbers: &mut List<usize>, place: usize, number: usize)
     ensures { numbers.new ≡ slice_set numbers.old place number }
 {
@@ -208,7 +209,7 @@ pub(crate) fn write_at(numbers: &mut List<usize>, place: usize, number: usize)
     }
 }
 
-/// The number at a place, or else the other one.
+/// The number at a place, or `other` if the list is shorter.
 fn number_at(numbers: &List<usize>, place: usize, other: usize) -> usize
     ensures { result ≡ buckets.number_or_other numbers.now place other }
 {
@@ -239,7 +240,8 @@ fn put(
     Ok(())
 }
 
-/// Looks at the entry before a number, from which on there is no entry of the spot.
+/// Looks at the last entry before a number. The fact that is sought is at no entry from this
+/// number on.
 fn look_before(all: &[Entry], befores: &List<usize>, count: usize, entry: Entry, at: usize) -> Look
     requires past { buckets.IsPast all.now entry at }
     requires befores { buckets.AreAbove all.now count befores.now }
@@ -261,7 +263,7 @@ fn look_before(all: &[Entry], befores: &List<usize>, count: usize, entry: Entry,
     }
 }
 
-/// Whether an entry's spot is in a table, which keeps these numbers.
+/// Whether the fact of an entry is in a table with these entries and bucket lists.
 fn has_chained(all: &[Entry], lasts: &List<usize>, befores: &List<usize>, entry: Entry) -> bool
     requires { buckets.IsChained (length lasts.now) all.now lasts.now befores.now }
     ensures { result ≡ table.has all.now entry }
@@ -288,7 +290,7 @@ fn same_aim(a: Aim, b: Aim) -> bool
     }
 }
 
-/// Whether two entries are of the same spot, however walks go on from there.
+/// Whether two entries have the same aim, function, place and fact. Their links may differ.
 fn same_spot(a: Entry, b: Entry) -> bool
     ensures { result ≡ table.same_spot a b }
 {
@@ -302,7 +304,7 @@ fn has_among(entries: &[Entry], entry: Entry) -> bool
     entries.iter().any(|known| same_spot(*known, entry))
 }
 
-/// The register that a fact is on.
+/// The register of which a fact speaks.
 fn register_of(fact: WalkFact) -> u32
     ensures { result ≡ buckets.fact_register fact }
 {
@@ -312,8 +314,8 @@ fn register_of(fact: WalkFact) -> u32
     }
 }
 
-/// The bucket of an entry's spot among `count`, by its function, its place, and the register of its
-/// fact.
+/// The number of an entry's bucket among `count`, from its function, its place, and the register
+/// of its fact.
 #[tactic(auto, using(crate::proofs::Chained::bucket_is))]
 fn bucket_of(count: usize, entry: Entry) -> usize
     ensures { result ≡ buckets.bucket_of count entry }
@@ -324,7 +326,7 @@ fn bucket_of(count: usize, entry: Entry) -> usize
     ((u64::from(entry.place) + function + register) % count) as usize
 }
 
-/// Adds an entry, unless its spot is in the table.
+/// Adds an entry, unless one with the same aim, function, place and fact is there.
 pub(crate) fn add(entries: &mut Table, entry: Entry) -> Result<(), AllocError>
     ensures { OnOk result (entries.new ≡ table.added entry entries.old) }
 {
@@ -350,7 +352,7 @@ fn through_of(link: Link) -> Option<u64>
     }
 }
 
-/// An entry as a step of a piece.
+/// The step of a piece that an entry is.
 pub(crate) fn step_of(entry: Entry) -> Step
     ensures { result ≡ table.step_of entry }
 {

@@ -15,20 +15,21 @@ use nvm_base::List;
 use std::alloc::{AllocError, Global};
 use walk_check::{Pieces, Walk};
 
-/// The most spots that a trail may have for each one that the search went through. So a walk that
-/// is near isn't left for a long one.
+/// A walk may reuse a walk that was found before if it then has at most so many steps for each
+/// entry that the search looked at. So a short walk isn't given up for a long one.
 const SPOTS_EACH: usize = 8;
 
-/// The spots of the walks that were found, each with the link back to the spot before it.
+/// All walks that were found so far, as one list of entries, each with a link to the entry before
+/// it on its walk.
 #[derive(Drop)]
 pub(crate) struct Trails {
     spots: Table,
-    /// For each spot, how many spots its walk has up to it.
+    /// For each entry of that list, how many entries its walk has up to it.
     lengths: List<usize>,
 }
 
-/// Where a search ends: at an entry where a walk begins, or at one whose spot is on a trail, by
-/// their numbers.
+/// Where a search ended: at an entry from which a walk begins; or at one whose fact stands on a
+/// walk that was found before, with the numbers of both.
 #[derive(Clone, Copy)]
 struct Met {
     number: usize,
@@ -46,7 +47,7 @@ fn with_link(entry: Entry, link: Link) -> Entry {
 }
 
 impl Trails {
-    /// No trails.
+    /// No walk was found yet.
     pub(crate) fn new(alloc: Global) -> Result<Self, AllocError> {
         Ok(Trails {
             spots: Table::empty(alloc, BUCKETS)?,
@@ -54,7 +55,7 @@ impl Trails {
         })
     }
 
-    /// How many spots a walk has up to one.
+    /// How many entries the walk has up to this one.
     fn length(&self, number: usize) -> usize {
         match self.lengths.get(number) {
             None => 0,
@@ -62,8 +63,8 @@ impl Trails {
         }
     }
 
-    /// The number of an entry's spot on a trail, if the trail is short enough for a search that
-    /// went through `searched` spots.
+    /// The number, on a walk that was found before, of an entry with the same fact; if that walk
+    /// is short enough for a search that looked at `searched` entries.
     fn near(&self, entry: Entry, searched: usize) -> Option<usize> {
         let number = self.spots.number_of(entry)?;
         if self.length(number) / SPOTS_EACH <= searched {
@@ -73,7 +74,7 @@ impl Trails {
         }
     }
 
-    /// How many spots a walk has before one with this link back.
+    /// How many entries the walk has before one with this link.
     fn length_before(&self, back: Link) -> usize {
         match back {
             Link::End => 0,
@@ -81,7 +82,7 @@ impl Trails {
         }
     }
 
-    /// Lays an entry's spot on the trails, and gives its number.
+    /// Adds an entry to the walks that were found, and gives its number there.
     fn lay(&mut self, alloc: Global, entry: Entry, back: Link) -> Result<usize, AllocError> {
         make_room(alloc, &mut self.spots)?;
         let number = self.spots.as_slice().len();
@@ -92,8 +93,8 @@ impl Trails {
     }
 }
 
-/// Searches the table, and what it adds, until a walk reaches an entry or a trail that is short
-/// enough.
+/// Searches until an entry is at a transaction's entry, or is on a walk that was found before and
+/// is short enough.
 fn seek_trail(
     alloc: Global,
     ir: &Ir,
@@ -119,7 +120,8 @@ fn seek_trail(
     Err(AllocError)
 }
 
-/// Where a search ends, if it ends anywhere. Pieces that one pass finds may take the next one on.
+/// Where a search ends, if it does. It goes on as long as a round adds entries, since new pieces
+/// may lead further.
 fn meet(
     alloc: Global,
     ir: &Ir,
@@ -144,8 +146,8 @@ fn meet(
     Err(AllocError)
 }
 
-/// How a walk goes on from an entry: the number of the next one, and the link from there back to a
-/// spot on the trails.
+/// The next entry of the walk, and the link by which the list of found walks goes back from it to
+/// this one.
 fn onward(link: Link, last: usize) -> Option<(usize, Link)> {
     match link {
         Link::End => None,
@@ -154,8 +156,8 @@ fn onward(link: Link, last: usize) -> Option<(usize, Link)> {
     }
 }
 
-/// Lays the walk from where a search ended to its aim on the trails, and gives the number of the
-/// aim's spot.
+/// Adds the walk, from where a search ended to where it was to come, to the walks that were found.
+/// Gives the number of its last entry.
 fn lay_walk(
     alloc: Global,
     trails: &mut Trails,
@@ -183,8 +185,8 @@ fn lay_walk(
     Ok(Some(last))
 }
 
-/// The walk to a spot on the trails as a search's table would have it: the spot first, and each
-/// other one with the link to the one after it.
+/// The walk up to an entry of the list, turned round: the entry itself first, and each one before
+/// it with a link to the one after it.
 fn path_to(alloc: Global, trails: &[Entry], number: usize) -> Result<List<Entry>, AllocError> {
     let mut path = List::new(alloc);
     let mut at = number;
@@ -205,7 +207,8 @@ fn path_to(alloc: Global, trails: &[Entry], number: usize) -> Result<List<Entry>
     Ok(path)
 }
 
-/// A walk that reaches the goal, mostly over the trails if they come near. It is laid on them too.
+/// A walk on which the fact holds at the site. It reuses walks that were found before where it
+/// comes to one, and is added to them.
 pub(crate) fn trail_to(
     alloc: Global,
     ir: &Ir,

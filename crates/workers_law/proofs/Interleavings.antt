@@ -37,7 +37,8 @@ module _ (image : Image) where
   waits_for : (s : Option TaskStart) (o : Option Task) (c : Cache) (k : Bool) →
       StandsFor image s o c → StandsFor image s o (fenced_cache k c)
   waits_for None o c k h = h
-  waits_for (Some s) None c k h = shows_fence k (due_call EndPool image s.tx s.args s.cache) [] s.cache c h
+  waits_for (Some s) None c k h = shows_fence k (due_call EndPool image s.tx s.args s.cache) []
+      s.cache c h
   waits_for (Some s) (Some t) c k h = (turns image s.tx s.args s.cache).2 t c k h
 
   goes_for : (s : Option TaskStart) (a : TurnAnswer) (t : Task) (o : Option Task) (d b : Device) →

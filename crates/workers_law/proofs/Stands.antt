@@ -245,7 +245,8 @@ module _ (image : Image) (tx : ℕ) (args : List ℤ) (c0 : Cache) where
       let rest : left_or image (task_past image t d.cache)
       (play d.cache (piece_of image t d.cache)) ≡ left_or image o b.cache =
       ap₂ (left_or image) (sym went.1) (sym now) in
-      shows_more (due_call EndPool image tx args c0) (left_of image t d.cache) (piece_of image t d.cache)
+      shows_more (due_call EndPool image tx args c0) (left_of image t d.cache)
+      (piece_of image t d.cache)
       (left_or image o b.cache) c0 d.cache b.cache s
       (left_next image t d.cache task
       ∙ ap (λ (es : List CacheEvent). piece_of image t d.cache ++ es) rest) now
@@ -275,8 +276,11 @@ module _ (image : Image) (tx : ℕ) (args : List ℤ) (c0 : Cache) where
 
   stays : (c : Cache) (k : Bool) → ShowsSome (due_call EndPool image tx args c0) c0 c →
       ShowsSome (due_call EndPool image tx args c0) c0 (fenced_cache k c)
-  stays c k s = record
-      { left = s.left; shows = shows_fence k (due_call EndPool image tx args c0) s.left c0 c s.shows }
+  stays c k s = record {
+    left = s.left;
+    shows = shows_fence k (due_call EndPool image tx args c0) s.left c0 c
+        s.shows;
+  }
 
 pub turns : TurnsLaw
 turns image tx args c0 = (

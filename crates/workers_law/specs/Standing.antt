@@ -19,8 +19,8 @@ use Rattle.pool_workers.specs.Task.{first_machine, piece_of, task_past, IsTask, 
 use Rattle.workers_law.specs.Fenced.{fenced_cache}
 use Rattle.workers_law.specs.Left.{left_of, left_or}
 
--- The compartment is as some first events of the due list left it, with fences put in anywhere;
--- these events are left.
+-- Some first part of the due events was played in the compartment, with extra fences; `left` is
+-- the rest of them.
 pub record ShowsPlayed (due left : List CacheEvent) (start now : Cache) : Type 0 where
   pub done : List CacheEvent
   pub shown : List CacheEvent
@@ -36,10 +36,12 @@ pub record ShowsSome (due : List CacheEvent) (start now : Cache) : Type 0 where
 -- A transaction that began on cache c0 is now t, on cache c: some of its due list was played, and
 -- the rest is what t has left.
 abbrev pub TaskStands : Image → (tx : ℕ) → List ℤ → (c0 : Cache) → Task → (c : Cache) → Type 0
-TaskStands image tx args c0 t c = ShowsPlayed (due_call EndPool image tx args c0) (left_of image t c) c0 c
+TaskStands image tx args c0 t c = ShowsPlayed (due_call EndPool image tx args c0)
+    (left_of image t c) c0 c
 
 abbrev pub StandsOr : Image → (tx : ℕ) → List ℤ → (c0 : Cache) → Option Task → (c : Cache) → Type 0
-StandsOr image tx args c0 o c = ShowsPlayed (due_call EndPool image tx args c0) (left_or image o c) c0 c
+StandsOr image tx args c0 o c = ShowsPlayed (due_call EndPool image tx args c0) (left_or image o c)
+    c0 c
 
 -- What a transaction has left is its next piece, followed by what it has left after that.
 abbrev pub LeftLaw : Type 0

@@ -124,7 +124,8 @@ module _ (d b : Device) (marked : AreMarked d.cache) (on : d.on ≡ true) where
   redid_kept (recovered.Aborted t) image tx args n k k1 is =
       kept_all (recovered.Aborted t) (due_redo EndPool image tx args n d.cache) is.1.played
   redid_kept (recovered.Off phase.Sealed) image tx args n k k1 is =
-      kept_part (recovered.Off phase.Sealed) refusal.Off (due_redo EndPool image tx args n d.cache) refl is
+      kept_part (recovered.Off phase.Sealed) refusal.Off (due_redo EndPool image tx args n d.cache)
+      refl is
   redid_kept (recovered.Off phase.Unsealed) image tx args n k k1 is = absurd is
   redid_kept (recovered.Off phase.Sealing) image tx args n k k1 is = absurd is
   redid_kept recovered.Failed image tx args n k k1 is =
@@ -132,7 +133,8 @@ module _ (d b : Device) (marked : AreMarked d.cache) (on : d.on ≡ true) where
   redid_kept recovered.NoMemory image tx args n k k1 (inl same) =
       kept_same recovered.NoMemory same.0
   redid_kept recovered.NoMemory image tx args n k k1 (inr part) =
-      kept_part recovered.NoMemory refusal.NoMemory (due_redo EndPool image tx args n d.cache) refl part
+      kept_part recovered.NoMemory refusal.NoMemory (due_redo EndPool image tx args n d.cache) refl
+      part
   redid_kept recovered.Clean image tx args n k k1 is = absurd is
   redid_kept (recovered.Unusable t) image tx args n k k1 is = absurd is
   redid_kept recovered.Numbers image tx args n k k1 is = absurd is

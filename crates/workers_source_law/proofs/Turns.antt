@@ -143,7 +143,8 @@ module _ (program : Program) (super : Words) (agrees : Agrees program) where
         (marks_play shows.shows.shown at.work.start at.work.marked)
 
     owing : (down : Bool) (o : Option Task)
-        → ShowsSome (due_call EndPool program.image at.call.tx at.call.args at.work.start) at.work.start b
+        → ShowsSome (due_call EndPool program.image at.call.tx at.call.args at.work.start)
+        at.work.start b
         → (down ≡ false → (t : Task) × (o ≡ Some t)
         × IsAtWork program super at.call t b (s worker))
         → Stands program super down o b (s worker)

@@ -58,8 +58,8 @@ pub record HoldsState (program : Program) (worker : ℕ) (d : Device) (s : Sourc
   pub done : view (compartment program.image worker d).cache DONE ≡ pos s.done
   pub last : view (compartment program.image worker d).cache LAST ≡ s.last
 
--- The compartment of an idle worker holds the worker's state, or has the mark of its trap; a worker
--- that owes a transaction is in it.
+-- The compartment of an idle worker holds the worker's state, or has the mark of its trap; a
+-- worker that owes a transaction is in the middle of running it.
 abbrev pub WorkerHolds : Standing → Program → (worker : ℕ) → Option Task → Device → SourceState
     → Type 0
 WorkerHolds Ready program worker o d s = (o ≡ None) × HoldsState program worker d s

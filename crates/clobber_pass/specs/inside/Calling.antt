@@ -1,4 +1,5 @@
--- The call graph, and the functions that wait for another sweep because the exits of a callee grew.
+-- Which function calls which, and which functions have to be swept again since what a called
+-- function's returns have grew.
 use Rattle.std.specs.Prelude.{◌≡◌, ◌==◌, ◌+◌, ◌<◌, ℕ, Bool, true, false, List, [], ◌∷◌, ◌++◌}
 use Rattle.std.specs.Prelude.{length}
 use Rattle.std.specs.Prelude.{slice_set, if◌then◌else◌}
@@ -20,7 +21,7 @@ abbrev pub IsCalled : List IrFunction → ℕ → Type 0
 IsCalled functions g = (f : ℕ) × (p : ℕ) × (to : ℕ) × (args : List ℕ)
     × CallsAt functions f p to g args
 
--- the exits of each called function are closed
+-- what each called function's exits record is closed under its code
 abbrev pub CalledEnded : List IrFunction → Topic → List (List (List ℕ)) → Type 0
 CalledEnded functions topic exits = (g : ℕ) → IsCalled functions g
     → AllColumns functions topic exits g
@@ -38,18 +39,18 @@ abbrev pub edges_from : ℕ → List IrFunction → List Edge
 edges_from f [] = []
 edges_from f (u ∷ us) = edges_in f u.code ++ edges_from (f + 1) us
 
--- each caller of a function waits
+-- each function that calls this one has to be swept again
 abbrev pub woken : List Edge → ℕ → List Bool → List Bool
 woken [] g waiting = waiting
 woken (e ∷ es) g waiting = woken es g (if e.called == g then slice_set waiting e.caller true
     else waiting)
 
--- each called function waits
+-- each function that is called has to be swept again
 abbrev pub all_called : List Edge → List Bool → List Bool
 all_called [] waiting = waiting
 all_called (e ∷ es) waiting = all_called es (slice_set waiting e.called true)
 
--- the exits of all other functions stayed, and what its own recorded stayed
+-- the exits of all other functions are as they were, and this one's record all that they recorded
 pub record Apart (f : ℕ) (exits new : List (List (List ℕ))) : Type 0 where
   pub same : (h : ℕ) → (h ≡ f → ⊥) → exits_of new h ≡ exits_of exits h
   pub keeps : (c : ℕ) → Within (row_in (exits_of exits f) c) (row_in (exits_of new f) c)
@@ -58,7 +59,7 @@ pub record Apart (f : ℕ) (exits new : List (List (List ℕ))) : Type 0 where
 abbrev pub CallsOthers : List IrFunction → ℕ → Type 0
 CallsOthers functions f = (p to : ℕ) (args : List ℕ) → CallsAt functions f p to f args → ⊥
 
--- the exits of a column, of a function that calls others alone, are closed
+-- for one column: what the function's exits record is closed, if it doesn't call itself
 pub record EndedAlone (functions : List IrFunction) (topic : Topic) (exits : List (List (List ℕ)))
     (f c : ℕ) : Type 0 where
   pub ends : CallsOthers functions f → Ended functions topic exits f c
@@ -67,7 +68,7 @@ abbrev pub ColumnsAlone : List IrFunction → Topic → List (List (List ℕ)) �
 ColumnsAlone functions topic exits f = (c : ℕ) → c < parameters_at functions f + 2
     → EndedAlone functions topic exits f c
 
--- the invariant of the exits and the waiting functions
+-- what is kept of the exits, and of the functions that have to be swept again
 pub record Passing (functions : List IrFunction) (topic : Topic) (exits : List (List (List ℕ)))
     (waiting : List Bool) : Type 0 where
   pub shaped : ShapedExits functions topic exits

@@ -17,7 +17,7 @@ use Rattle.clobber_pass.specs.inside.Sweep.{exits_of, next_row, join_in, row_or}
 use Rattle.clobber_pass.specs.inside.Closed.{Closed, Made, Within, entry_row}
 use Rattle.clobber_pass.specs.declared.topic.TheConstants.{TOPIC_FIELDS}
 
--- a parameter has what its argument has; any other register has what the walk itself has
+-- a parameter has what its argument has; any other register has what the walk's start has
 abbrev pub argument_word : List ℕ → Option ℕ → ℕ
 argument_word row None = word row 0
 argument_word row (Some a) = word row (a + 2)
@@ -91,7 +91,8 @@ pub record StartEntries (functions : List IrFunction) (topic : Topic) (entries :
 abbrev pub at_entry : Topic → ℕ → List ℕ → List ℕ
 at_entry topic registers row = row_or row (enter_from [] [] 0 (row_width topic registers))
 
--- the sweeps from a function's entry reach a fixpoint, and what its calls bring is recorded
+-- the rows of a function don't grow by another sweep from its entry, and the called functions'
+-- entries record what its calls bring
 pub record FlowIn (functions : List IrFunction) (topic : Topic) (exits : List (List (List ℕ)))
     (entries : List (List ℕ)) (f : ℕ) (rows : List (List ℕ)) (u : IrFunction) : Type 0 where
   pub closed : Closed topic exits (length u.code) rows
@@ -111,7 +112,7 @@ abbrev pub AllFlow : List IrFunction → Topic → List (List (List ℕ)) → Li
 AllFlow functions topic exits entries tables = (f : ℕ) → f < length functions
     → FlowEnded functions topic exits entries f (exits_of tables f)
 
--- the invariant of entries
+-- what is kept of the rows at the functions' entries
 pub record Entries (functions : List IrFunction) (topic : Topic) (entries : List (List ℕ)) :
     Type 0 where
   pub sound : SoundEntries functions topic entries
@@ -128,13 +129,14 @@ pub record StartsAt (functions : List IrFunction) (topic : Topic) (entries : Lis
 abbrev pub waits : List Bool → ℕ → Bool
 waits waiting f = slice_index_or waiting f true
 
--- a function that doesn't wait afterwards didn't wait before, and its entry stayed
+-- a function that needn't be swept again afterwards needn't have been before, and the row at its
+-- entry is as it was
 pub record Wakes (waiting later : List Bool) (entries new : List (List ℕ)) : Type 0 where
   pub size : length later ≡ length waiting
   pub kept : (f : ℕ) → waits later f ≡ false → (waits waiting f ≡ false)
       × (row_in new f ≡ row_in entries f)
 
--- the invariant of entries, tables and waiting functions
+-- what is kept of entries, tables, and the functions that have to be swept again
 pub record Flowing (functions : List IrFunction) (topic : Topic) (exits : List (List (List ℕ)))
     (entries : List (List ℕ)) (tables : List (List (List ℕ))) (waiting : List Bool) : Type 0 where
   pub entries_are : Entries functions topic entries

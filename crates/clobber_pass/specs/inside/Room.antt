@@ -1,5 +1,5 @@
--- The room that a table leaves, which is how far its words are below 2^16. An empty row leaves more
--- room than any row of words. Each bit that is added takes some room, so the sweeps end.
+-- How many bits a table has still free: its words are below 2^16. An empty row counts as more room
+-- than any row of words. Each bit that is added takes some room, so the sweeps end.
 use Rattle.std.specs.Prelude.{◌+◌, ◌-◌, ◌*◌, ◌^◌, ℕ, List, [], ◌∷◌}
 
 abbrev pub words_room : List ℕ → ℕ
@@ -14,7 +14,7 @@ abbrev pub room : List (List ℕ) → ℕ
 room [] = 0
 room (row ∷ rows) = row_room row + room rows
 
--- the room that the tables of all functions leave
+-- the room of the tables of all functions
 abbrev pub all_room : List (List (List ℕ)) → ℕ
 all_room [] = 0
 all_room (rows ∷ tables) = room rows + all_room tables

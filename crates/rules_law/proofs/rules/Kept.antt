@@ -124,7 +124,7 @@ type_given_of t s e x is =
 pub gives_is : (t : Tables) (s : List Scope) (e : ExprTree) → IsOf (Types t s e) (type_of t s e)
 gives_is t s e x = (type_given_of t s e x, given_type t s e x)
 
--- an array field, whose name stands where its kind says
+-- of a kind that is an array: what is said of it, for the type of its elements
 array_from : (F A : StaticType → Type 0) (k : Kind) (el : ValueType) (n : ℕ) → Says F A k
     → k ≡ Array el n → (x : StaticType) × (el ≡ value_type x) × A x
 array_from F A (Array e m) el n h is = (h.0, same el e m n is ∙ h.1, h.2)

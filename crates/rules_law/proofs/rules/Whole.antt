@@ -49,7 +49,7 @@ functions_each t i [] = refl
 functions_each t i (f ∷ fs) =
     ap (λ rest. whole_function_broken t i f ++ rest) (functions_each t (i + 1) fs)
 
--- a struct with its fields
+-- a rule that is broken at a field of a struct is listed
 found_field : (end : ℕ) (t : Tables) (i j : ℕ) (s : StructTree) (f : FieldTree) (b : Broken)
     → slice_get t.structs i ≡ Some s → slice_get s.fields j ≡ Some f
     → IsAmong b (field_broken t (field_names s) j f) → Found t b (StandsIn end t)

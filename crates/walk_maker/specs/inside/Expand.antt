@@ -1,4 +1,5 @@
--- The spots before a spot, each tried by the checker's rules before it is added.
+-- The entries from which a walk goes on to a later entry. Each is tried by the checker's rules
+-- before it is added.
 use Rattle.std.specs.Prelude.{◌==◌, ◌&&◌, ◌+◌, ℕ, false, List, [], ◌∷◌, Option, Some}
 use Rattle.std.specs.Prelude.{None, slice_get, if◌then◌else◌}
 use Rattle.ir.specs.declared.instruction.Instruction.{Instruction}
@@ -22,7 +23,7 @@ use Rattle.walk_maker.specs.inside.Table.{added, step_of, through_of}
 use Rattle.walk_maker.specs.inside.Calls.{back_in, exit_of, before_call}
 use Rattle.walk_maker.specs.inside.Reading.{entry_fact}
 
--- the spot that goes on to the later one from a place of its function
+-- the entry for a fact at a place of the same function, with a link to the later entry
 abbrev pub next_to : Later → (p : ℕ) → WalkFact → Option ℕ → Entry
 next_to later p a through =
     record {
@@ -47,7 +48,7 @@ tried_origins ir ps u later p (Two a b) t =
     step_tried ir ps u later.entry (next_to later p b None)
     (step_tried ir ps u later.entry (next_to later p a None) t)
 
--- the spot at a return, with the fact that its piece must end with
+-- the entry at a return of the called function, with the fact that has to hold there
 abbrev pub return_at : (g q : ℕ) → WalkFact → Entry
 return_at g q y =
     record { aim = ToReturn y; function = g; place = q; fact = y; link = End }
@@ -61,7 +62,7 @@ abbrev pub returns_added : (g : ℕ) → WalkFact → (q : ℕ) → List Instruc
 returns_added g y q [] t = t
 returns_added g y q (i ∷ is) t = returns_added g y (q + 1) is (return_added g y q i t)
 
--- the spot at a call with the fact that a piece carries past the call
+-- the entry at a call from which a piece leads to the later fact
 abbrev pub through_tried : Ir → List Piece → IrFunction → Later → Passed → List ℕ → (n : ℕ)
     → Piece → List Entry → List Entry
 through_tried ir ps u later call args n piece t =
@@ -76,7 +77,7 @@ throughs_tried ir ps u later call args n (piece ∷ rest) t =
     throughs_tried ir ps u later call args (n + 1) rest
     (through_tried ir ps u later call args n piece t)
 
--- the returns of a called function
+-- an entry for each return of a called function
 abbrev pub exits_added : Ir → IrFunction → (g : ℕ) → WalkFact → List Entry → List Entry
 exits_added ir v g y t = if fact_is_there ir.shapes v y then returns_added g y 0 v.code t else t
 
@@ -107,13 +108,13 @@ abbrev pub along_tried : Ir → List Piece → IrFunction → Later → (p : ℕ
 along_tried ir ps u later p i t = if leads i p later.entry.place
     then tried_origins ir ps u later p (origins i later.entry.fact) t else t
 
--- the spots at a place of the same function
+-- the entries at one place of the same function
 abbrev pub before_tried : Ir → List Piece → IrFunction → Later → (p : ℕ) → Instruction
     → List Entry → List Entry
 before_tried ir ps u later p i t =
     along_tried ir ps u later p i (next_tried ir ps u later p i t)
 
--- the spots at the places from p on
+-- the entries at the places from p on
 abbrev pub all_before_tried : Ir → List Piece → IrFunction → Later → (p : ℕ) → List Instruction
     → List Entry → List Entry
 all_before_tried ir ps u later p [] t = t
@@ -124,7 +125,7 @@ all_before_tried ir ps u later p (i ∷ is) t =
 abbrev pub bound_fact : IrFunction → Later → WalkFact
 bound_fact v later = entry_fact false v later.entry.fact
 
--- the spot at a call that enters the function
+-- the entry at a call, from which the walk goes on at the called function's entry
 abbrev pub caller_at : (f p : ℕ) → Later → List ℕ → Entry
 caller_at f p later args =
     record {

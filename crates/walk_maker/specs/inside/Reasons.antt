@@ -35,12 +35,12 @@ goal_at site a = record {
   link = End;
 }
 
--- what the fact names exists in the site's function
+-- the site's function has what the fact names
 abbrev pub FactThere : Ir → Site → WalkFact → Type 0
 FactThere ir site a = (u : IrFunction) × (slice_get ir.functions site.function ≡ Some u)
     × (fact_is_there ir.shapes u a ≡ true)
 
--- the walk reaches the site with the fact; where there is none, no walk does
+-- it is a walk on which the fact holds at the site; or it is none, and there is no such walk
 abbrev pub IsWalkTo : Ir → Site → WalkFact → List Piece → Option Walk → Type 0
 IsWalkTo ir site a ps (Some walk) = (ends : Origins) → AmongOrigins a ends
     → walk_keeps ir ps site ends walk.pieces ≡ true
@@ -52,7 +52,7 @@ pub record WalkGiven (ir : Ir) (site : Site) (a : WalkFact) (old new : List Piec
   pub grown : Grows old new
   pub given : IsWalkTo ir site a new walk
 
--- the reason keeps the rules; where there is none, the site isn't logged
+-- the reason keeps the rules; or there is none, and the site isn't logged
 abbrev pub IsReason : Ir → Site → List Piece → Option Reason → Type 0
 IsReason ir site ps (Some reason) = reason_keeps ir ps site reason ≡ true
 IsReason ir site ps None = IsLogged ir.functions site → ⊥
@@ -71,7 +71,7 @@ abbrev pub FillsAt : Ir → Site → Type 0
 FillsAt ir site = (site.fill ≡ true) × (to : ℕ) × (kind : ℕ) × (log_fill : Bool) × (line : ℕ)
     × (instruction_at ir.functions site.function site.place ≡ Some (New to kind log_fill line))
 
--- what is written at a site, as far as its log depends on it
+-- what is written at a site, as far as it decides whether it is logged
 abbrev pub written_kind : Option Instruction → (fill : Bool) → Kind
 written_kind (Some (Store target from line)) false = Written target
 written_kind (Some (New to kind log_fill line)) false = Header
@@ -79,7 +79,7 @@ written_kind (Some (Free from kind line)) false = Header
 written_kind (Some (New to kind log_fill line)) true = Fill
 written_kind _ fill = Nothing
 
--- with the site and its reason, if it has one
+-- the list, with the site and its reason added if there is a reason
 abbrev pub with_reason : List (Site × Reason) → Site → Option Reason → List (Site × Reason)
 with_reason rs site None = rs
 with_reason rs site (Some reason) = rs ++ (site, reason) ∷ []
@@ -89,7 +89,7 @@ abbrev pub AllKept : Ir → List Piece → List (Site × Reason) → Type 0
 AllKept ir ps rs =
     AllByRecursion (λ (r : Site × Reason). reason_keeps ir ps r.0 r.1 ≡ true) rs
 
--- the second list has the sites of the first, in its order, but for some that aren't logged
+-- the second list is the first, in its order, without some sites that aren't logged
 pub data Skips (functions : List IrFunction) : List Site → List Site → Type 0 where
   no_more : Skips functions [] []
   kept : {s : Site} {all told : List Site} → Skips functions all told

@@ -25,7 +25,7 @@ pub record SearchState : Type 0 where
 abbrev pub state : List Entry → List Piece → SearchState
 state table passed = record { table = table; passed = passed }
 
--- the piece of the function goes from x to y
+-- the function has a piece of a walk from fact x to fact y
 abbrev pub goes_from : ℕ → (x y : WalkFact) → Piece → Bool
 goes_from g x y piece =
     (piece.function == g) && (same (first_fact piece) x && same (last_fact piece) y)
@@ -46,7 +46,7 @@ abbrev pub aim_passed : Ir → IrFunction → Later → Aim → List Entry → L
 aim_passed ir u later ToSite t ps = ps
 aim_passed ir u later (ToReturn y) t ps = piece_added ir u later y t ps
 
--- what is found at a function's entry
+-- what an entry at the start of a function adds: the calls of the function, or a complete piece
 abbrev pub entry_table : Ir → IrFunction → Later → List Entry → List Entry
 entry_table ir u later t = if later.entry.place == 0 then aim_table ir u later later.entry.aim t
     else t
@@ -63,20 +63,20 @@ expanded_in ir later None s = s
 expanded_in ir later (Some u) s =
     with_entered ir u later (all_before_tried ir s.passed u later 0 u.code s.table) s.passed
 
--- with what comes before an entry
+-- the table, with each entry from which a walk goes on to this one
 abbrev pub expanded : Ir → Later → SearchState → SearchState
 expanded ir later s = expanded_in ir later (slice_get ir.functions later.entry.function) s
 
 abbrev pub later_at : ℕ → Entry → Later
 later_at n e = record { number = n; entry = e }
 
--- with what comes before the entries from number n on, also before new ones
+-- the same for the entries from number n on, those that are added meanwhile too
 pub data Swept (ir : Ir) : ℕ → SearchState → SearchState → Type 0 where
   ends : {n : ℕ} {s : SearchState} → slice_get s.table n ≡ None → Swept ir n s s
   goes : {n : ℕ} {s end : SearchState} {e : Entry} → slice_get s.table n ≡ Some e
       → Swept ir (n + 1) (expanded ir (later_at n e) s) end → Swept ir n s end
 
--- .. or before some of the entries from number n on
+-- .. or for some of them
 pub data Stopped (ir : Ir) : ℕ → SearchState → SearchState → Type 0 where
   stops : {n : ℕ} {s : SearchState} → Stopped ir n s s
   goes_past : {n : ℕ} {s end : SearchState} {e : Entry} → slice_get s.table n ≡ Some e
@@ -91,7 +91,7 @@ starts_at functions e ToSite =
     (e.place == 0) && starts_in e.fact (slice_get functions e.function)
 starts_at functions e (ToReturn y) = false
 
--- a walk from a transaction's entry begins at the entry
+-- the entry is at the entry of a transaction
 abbrev pub is_start : List IrFunction → Entry → Bool
 is_start functions e = starts_at functions e e.aim
 

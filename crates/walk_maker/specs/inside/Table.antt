@@ -15,17 +15,17 @@ same_aim ToSite ToSite = true
 same_aim (ToReturn a) (ToReturn b) = same a b
 same_aim _ _ = false
 
--- the entries are of the same spot, however walks go on from there
+-- two entries have the same aim, function, place and fact; their links may differ
 abbrev pub same_spot : (a b : Entry) → Bool
 same_spot a b =
     same_aim a.aim b.aim && ((a.function == b.function) && ((a.place == b.place)
     && same a.fact b.fact))
 
--- the spot is in the table
+-- the table has an entry with the same aim, function, place and fact
 abbrev pub has : List Entry → Entry → Bool
 has t e = list_any (λ (x : Entry). same_spot x e) t
 
--- with an entry, unless its spot is in the table
+-- the table with this entry, unless it has the same fact there already
 abbrev pub added : Entry → List Entry → List Entry
 added e t = if has t e then t else t ++ e ∷ []
 

@@ -28,7 +28,8 @@ returns-in-Done-clause-redid g c =
     let done = subst (λ (z : Sizes). PlaysAll d (due_back z n d.cache) m) c.sizes.ensures
     c.in-Done.ensures.played in
     let up : m.on ≡ true = still_on p image tx args n d b m done ∙ c.requires.on in
-    let settles = subst (λ (s : State). Settles c.settle.result p image s m b j k1) c.in-Some.ensures
+    let settles = subst (λ (s : State). Settles c.settle.result p image s m b j k1)
+    c.in-Some.ensures
     (c.settle.ensures.settled up) in
     subst (λ (a : RecoverAnswer). Redid a p image tx args n d b k k1) (sym c.redone.ensures)
     (redid_of p image tx args n d b m done c.settle.result k j k1
@@ -52,7 +53,8 @@ returns-in-Done-clause-bound g c =
     let up : m.on ≡ true = still_on p image tx args n d b m done ∙ c.requires.on in
     let bound = subst (λ (s : State). k1 ≤ j + run_steps p image s m.cache) c.in-Some.ensures
     (c.settle.ensures.bound up) in
-    spent_of p image tx args n d b m done c.args.steps.now j k1 (c.put_back.ensures.cost c.in-Done.is)
+    spent_of p image tx args n d b m done c.args.steps.now j k1
+    (c.put_back.ensures.cost c.in-Done.is)
     bound
 
 pub returns-in-Off-clause-redid : goal.returns-in-Off-clause-redid
@@ -67,7 +69,8 @@ pub returns-in-Failed-clause-redid : goal.returns-in-Failed-clause-redid
 returns-in-Failed-clause-redid g c =
     let d = g.P.PmemWork.device c.args.dev.now in
     let b = g.P.PmemWork.device c.put_back.new.dev in
-    back_cut c.args.policy c.args.image.now c.args.tx c.args.args.now c.args.count d b refusal.Failed
+    back_cut c.args.policy c.args.image.now c.args.tx c.args.args.now c.args.count d b
+    refusal.Failed
     (subst (λ (z : Sizes). PlaysPart refusal.Failed d (due_back z c.args.count d.cache) b)
     c.sizes.ensures c.in-Failed.ensures.played)
 
@@ -75,6 +78,7 @@ pub returns-in-NoMemory-clause-redid : goal.returns-in-NoMemory-clause-redid
 returns-in-NoMemory-clause-redid g c =
     let d = g.P.PmemWork.device c.args.dev.now in
     let b = g.P.PmemWork.device c.put_back.new.dev in
-    inr (back_cut c.args.policy c.args.image.now c.args.tx c.args.args.now c.args.count d b refusal.NoMemory
+    inr (back_cut c.args.policy c.args.image.now c.args.tx c.args.args.now c.args.count d b
+    refusal.NoMemory
     (subst (λ (z : Sizes). PlaysPart refusal.NoMemory d (due_back z c.args.count d.cache) b)
     c.sizes.ensures c.in-NoMemory.ensures.played))

@@ -47,18 +47,21 @@ returns-in-Done-clause-bound g c =
 
 pub returns-in-Off-clause-called : goal.returns-in-Off-clause-called
 returns-in-Off-clause-called g c =
-    seal_off c.args.policy c.args.image.now c.args.tx c.args.args.now (g.P.PmemWork.device c.args.dev.now)
+    seal_off c.args.policy c.args.image.now c.args.tx c.args.args.now
+    (g.P.PmemWork.device c.args.dev.now)
     (g.P.PmemWork.device c.seal.new.dev) c.in-Off.phase c.args.steps.now c.args.steps.now
     (c.in-Off.ensures.played c.requires.on)
 
 pub returns-in-Failed-clause-called : goal.returns-in-Failed-clause-called
 returns-in-Failed-clause-called g c =
-    seal_failed c.args.policy c.args.image.now c.args.tx c.args.args.now (g.P.PmemWork.device c.args.dev.now)
+    seal_failed c.args.policy c.args.image.now c.args.tx c.args.args.now
+    (g.P.PmemWork.device c.args.dev.now)
     (g.P.PmemWork.device c.seal.new.dev) c.args.steps.now c.args.steps.now
     (c.in-Failed.ensures.played c.requires.on)
 
 pub returns-in-NoMemory-clause-called : goal.returns-in-NoMemory-clause-called
 returns-in-NoMemory-clause-called g c =
-    seal_short c.args.policy c.args.image.now c.args.tx c.args.args.now (g.P.PmemWork.device c.args.dev.now)
+    seal_short c.args.policy c.args.image.now c.args.tx c.args.args.now
+    (g.P.PmemWork.device c.args.dev.now)
     (g.P.PmemWork.device c.seal.new.dev) c.args.steps.now c.args.steps.now
     (c.in-NoMemory.ensures.played c.requires.on)

@@ -1,4 +1,5 @@
-use Rattle.std.proofs.Common.{rules, length, Bool, false, ◌≡◌, ◌+◌, true, ℤ, FitsSigned, to_z, of_z, w64, refl, sym}
+use Rattle.std.proofs.Common.{rules, length, Bool, false, ◌≡◌, ◌+◌, true, ℤ, FitsSigned, to_z}
+use Rattle.std.proofs.Common.{of_z, w64, refl, sym}
 use Rattle.std.proofs.Common.{ap, ◌∙◌, subst, arith}
 use Rattle.pmem.specs.Played.{Played}
 use Rattle.pmem.specs.declared.answer.Refusal.TheVariants as refusal
@@ -10,7 +11,8 @@ use Rattle.tx_run.specs.declared.answer.Settled.{Settled}
 use Rattle.tx_run.specs.Due.{retiring, trap_events, trap_steps}
 use Rattle.tx_run.specs.Settled.{Settles}
 use Rattle.tx_run.specs.inside.Settled.{log_done}
-use Rattle.tx_run.proofs.RunParts.{still_on, settle_done, settle_trap, cut_run, run_bound, most_run, trap_few}
+use Rattle.tx_run.proofs.RunParts.{still_on, settle_done, settle_trap, cut_run, run_bound}
+use Rattle.tx_run.proofs.RunParts.{most_run, trap_few}
 use Rattle.tx_run.proofs.settling.settle.Goals as goal
 
 pub returns-in-Halted-clause-settled : goal.returns-in-Halted-clause-settled
