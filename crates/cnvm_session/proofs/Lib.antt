@@ -10,3 +10,4 @@ pub mod Refusing
 pub mod Quiets
 pub mod Writing
 pub mod Bounding
+mod Same

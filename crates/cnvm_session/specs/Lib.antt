@@ -1,5 +1,7 @@
 pub mod AnswerText
 pub mod Opening
+pub mod Former
+pub mod Moving
 pub mod Pool
 pub mod Unmade
 pub mod Marks

@@ -52,7 +52,7 @@ fn store_sizes<P: PmemWork>(sizes: &Sizes, dev: &mut P) -> Result<(), Refusal>
 
 /// Stores the words of the second line.
 #[tactic(auto, unfolding(args_log::specs::Created::digest_events))]
-fn store_digest<P: PmemWork>(digest: &[i64; 4], dev: &mut P) -> Result<(), Refusal>
+pub(crate) fn store_digest<P: PmemWork>(digest: &[i64; 4], dev: &mut P) -> Result<(), Refusal>
     requires { 6 ≤ (P.device dev.old).lines }
     ensures done { OnOk result (PlaysAll (P.device dev.old) (digest_events digest.now)
         (P.device dev.new)) }

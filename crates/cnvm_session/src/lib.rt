@@ -6,9 +6,11 @@
 
 mod answer;
 mod creating;
+mod former;
 mod law;
 mod marks;
 mod mode;
+mod moving;
 mod opening;
 mod outcome;
 mod program;
@@ -19,9 +21,11 @@ mod traps;
 
 pub use answer::Answer;
 pub use creating::StartFault;
+pub use former::first_other;
 pub use law::laws;
 pub use marks::rolls_back;
 pub use mode::Mode;
+pub use moving::move_pool;
 pub use opening::open_pool;
 pub use outcome::answer_of_recovery;
 pub use program::Program;

@@ -12,6 +12,7 @@ ghost use Rattle.pool_layout.specs.Image.{is_sealed};
 ghost use Rattle.args_log.specs.Created.{creation_events};
 ghost use Rattle.cnvm_session.specs.Opening.{opening_events};
 ghost use Rattle.cnvm_session.specs.Unmade.{IsUnmade};
+ghost use Rattle.cnvm_session.specs.Moving.{is_recovered};
 ghost use Rattle.c_types.specs.Shapes.{shapes_of};
 ghost use Rattle.cnvm_session.specs.Marks.{rolls_back_of, owes_marked};
 ghost use Rattle.cnvm_session.specs.Outcomes.{RunsBy, Runs, RecoversBy, Recovers, Opens};
@@ -63,6 +64,16 @@ impl Session {
         Session {
             mode,
             spare: Spare::new(),
+        }
+    }
+
+    /// Whether nothing is owed: the pool takes calls, or a trap has ended it.
+    pub fn is_recovered(&self) -> bool
+        ensures { result ≡ is_recovered self.now }
+    {
+        match self.mode {
+            Mode::Ready | Mode::Unusable(_) => true,
+            Mode::Down => false,
         }
     }
 

@@ -51,7 +51,8 @@ fn phase_name(phase: Phase) -> &'static str
     }
 }
 
-fn text_of(alloc: Global, line: &str) -> Result<Text, AllocError>
+/// A copy of a text.
+pub(crate) fn text_of(alloc: Global, line: &str) -> Result<Text, AllocError>
     ensures { IfOk result (λ text. text ≡ line.now) }
 {
     let mut text = Text::new(alloc);

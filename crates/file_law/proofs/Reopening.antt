@@ -1,14 +1,13 @@
 -- What a crash leaves of a session's file is recovered as what a power cut leaves of its device.
-use Rattle.std.proofs.Common.{◌≡◌, ◌⊎◌, inl, inr, ⊎_elim, ℕ, ◌/◌, ◌*◌, ◌<◌, ◌≤◌, Bool, true, false}
-use Rattle.std.proofs.Common.{List, [], ◌∷◌, length, slice_index_or, zero, suc, Option, Some, None}
+use Rattle.std.proofs.Common.{◌≡◌, inl, ⊎_elim, ℕ, ◌/◌, ◌*◌, ◌<◌, ◌≤◌, Bool}
+use Rattle.std.proofs.Common.{List, [], ◌∷◌, length, slice_index_or, zero, suc, Some, None}
 use Rattle.std.proofs.Common.{ℤ, pos, refl, sym, ap, ◌∙◌, subst, arith}
 use Rattle.std.proofs.lemmas.Bool.{cases_lt}
-use Rattle.cache_model.specs.Cache.{Words, Line, Cache, view, blank}
+use Rattle.cache_model.specs.Cache.{Words, Line, view, blank}
 use Rattle.cache_model.specs.Image.{IsVersion, IsImage, Images}
 use Rattle.cache_model.specs.Play.{play}
 use Rattle.pmem.specs.Device.{Device, memory_of, blanked}
-use Rattle.file_pmem.specs.File.{FileLines, MayLeave}
-use Rattle.file_pmem.specs.Mirror.{CoversCopies}
+use Rattle.file_pmem.specs.File.{FileLines}
 use Rattle.file_pmem.proofs.Crashes.{crash}
 use Rattle.pool_layout.specs.Image.{image_words}
 use Rattle.pool_layout.specs.Sizes.{pool_lines}
@@ -19,17 +18,14 @@ use Rattle.crash_law.specs.Law.{IsAtRest, IsCut}
 use Rattle.crash_law.specs.Pools.{IsBefore}
 use Rattle.run_law.specs.Seen.{result_of, E, W}
 use Rattle.cut_law.specs.Law.{call_of, pool_with}
-use Rattle.cnvm_session.specs.declared.answer.Answer.{Answer}
 use Rattle.cnvm_session.specs.declared.mode.Mode.{Mode}
 use Rattle.cnvm_session.specs.declared.program.Program.{Program}
 use Rattle.cnvm_session.specs.Marks.{rolls_back_of, policy_of}
 use Rattle.cnvm_session.specs.Opening.{opening_events}
-use Rattle.cnvm_session.specs.Outcomes.{Opens}
 use Rattle.cnvm_session.specs.Pool.{sizes_of}
 use Rattle.cnvm_session.proofs.Writing.{written_word, written_rest}
-use Rattle.session_law.specs.Agrees.{Agrees}
 use Rattle.session_law.specs.Answers.{Powers}
-use Rattle.session_law.specs.Holds.{Holds, HoldsAs, OwesNone, OwesBy}
+use Rattle.session_law.specs.Holds.{HoldsAs, OwesNone, OwesBy}
 use Rattle.session_law.specs.Ran.{Moment}
 use Rattle.session_law.specs.State.{Pending, Standing, Ready, Down, Unusable, SourceState}
 use Rattle.session_law.proofs.Ones.{rest_images}
@@ -104,7 +100,7 @@ module _ (program : Program) (x : Moment) (f : FileLines) (words : List ℤ)
     λ p e. past words p (let w = is.whole in omega (arith, w, e, le)),
   )
 
-  left_image : IsImage x.device.cache (image_words words)
+  pub left_image : IsImage x.device.cache (image_words words)
   left_image l = ⊎_elim (λ (lt : l < x.device.lines). inside_line l lt)
       (λ (le : x.device.lines ≤ l). outside_line l le) (cases_lt l x.device.lines)
 

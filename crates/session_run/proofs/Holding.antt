@@ -1,10 +1,9 @@
 -- Commands are run on a pool that is held by a file.
-use Rattle.std.proofs.Common.{◌≡◌, ℕ, zero, suc, ◌+◌, ◌*◌, ◌<◌, List, [], ◌∷◌, ◌++◌, Option, length}
+use Rattle.std.proofs.Common.{◌≡◌, ◌≢◌, ℕ, zero, suc, ◌+◌, ◌*◌, ◌<◌, List, [], ◌∷◌, Option, length}
 use Rattle.std.proofs.Common.{drop, get_or, slice_index_or, Result, Ok, Err, OnOk, IfErr, ℤ, pos}
 use Rattle.std.proofs.Common.{inl, inr, refl, ap, sym, subst, ◌∙◌, arith}
 use Rattle.std.specs.Io.KnownBytes.{Appends}
-use Rattle.cache_model.specs.Cache.{Words, Cache, Memory, blank, view}
-use Rattle.cache_model.specs.Play.{play}
+use Rattle.cache_model.specs.Cache.{Words, Cache, Memory, view}
 use Rattle.pmem.specs.Device.{Device, blanked}
 use Rattle.pmem.specs.Played.{PlaysAll}
 use Rattle.pmem.proofs.Refused.{all_cache}
@@ -20,7 +19,9 @@ use Rattle.pool_layout.specs.declared.limits.Sizes.{Sizes}
 use Rattle.pool_layout.specs.Sizes.{pool_lines}
 use Rattle.cnvm_script.specs.declared.command.Command.{Command}
 use Rattle.cnvm_session.specs.declared.answer.Answer.{Answer}
+use Rattle.cnvm_session.specs.declared.creating.StartFault.{StartFault}
 use Rattle.cnvm_session.specs.declared.mode.Mode.{Mode}
+use Rattle.cnvm_session.specs.declared.mode.Mode.TheVariants.{Ready}
 use Rattle.cnvm_session.specs.declared.program.Program.{Program}
 use Rattle.cnvm_session.specs.AnswerText.{answer_text}
 use Rattle.cnvm_session.specs.Commands.{Commanded}
@@ -30,8 +31,12 @@ use Rattle.cnvm_session.proofs.Writing.{written_word}
 use Rattle.session_run.specs.declared.held.Unheld.{Unheld}
 use Rattle.session_run.specs.declared.held.Unheld.TheVariants as unheld
 use Rattle.session_run.specs.declared.status.Status.{Status}
-use Rattle.session_run.specs.Commands.{RunsAndWrites, RunsPart}
-use Rattle.session_run.specs.Held.{RunsSome, EndsAt, BreaksOff, HeldAs, status_of}
+use Rattle.session_run.specs.declared.status.Status.TheVariants as status
+use Rattle.session_run.specs.AsStatus.{AsStatus}
+use Rattle.session_run.specs.Commands.{RunsAndWrites, RunsPart, OpensPart}
+use Rattle.session_run.specs.Made.{Unopened}
+use Rattle.session_run.specs.Held.{RunsSome, EndsAt, BreaksOff, OpensTold, AnswersAs, HeldAs}
+use Rattle.session_run.specs.Held.{NewAs, created_line, status_of}
 use Rattle.session_run.proofs.Running.{commands_at, part_here}
 
 -- one command is answered, and then some first ones of the rest
@@ -99,37 +104,55 @@ opens_held program words d o e b answer m k k1 same written recovers = record {
   recovers = subst (λ (x : Device). Recovers program x answer m b k k1) same recovers;
 }
 
--- the pool is opened, and then its commands are answered
-pub held_ran : (program : Program) (commands : List Command) (words : List ℤ) (s : MirrorState)
-    (w w1 w' : Option (List ℕ)) (d b d' : Device) (k k1 k' : ℕ) (answer : Answer) (m : Mode)
-    (r : Result Unit Unheld) → Opens program words d answer m b k k1
-    → Appends w w1 (answer_text answer)
-    → OnOk r (RunsAndWrites program commands m b w1 k1 d' w' k')
-    → IfErr r (λ why. BreaksOff why s program commands m b w1 k1 d' w' k') → OnOk r (s ≡ Awake)
-    → HeldAs program commands words (status_of r) s w w' d d' k k'
-held_ran program commands words s w w1 w' d b d' k k1 k' answer m (Ok u) opens line all broken
-    kept = ((λ e. kept), inl (answer, m, b, w1, k1, opens, line, all))
-held_ran program commands words s w w1 w' d b d' k k1 k' answer m (Err unheld.NoMemory) opens line
-    all broken kept = ((λ e. cc), inl (inr (inr (answer, m, b, w1, k1, opens, line, broken))))
-held_ran program commands words s w w1 w' d b d' k k1 k' answer m (Err unheld.WriteFault) opens
-    line all broken kept = ((λ e. cc), inl (inr (answer, m, b, w1, k1, opens, line, broken)))
-held_ran program commands words s w w1 w' d b d' k k1 k' answer m (Err unheld.GivenUp) opens line
-    all broken kept =
-    ((λ e. cc), inr (refl, broken.1, (answer, m, b, w1, k1, opens, line, broken.0)))
+-- how commands end that were answered so
+answers_so : (program : Program) (commands : List Command) (s : MirrorState)
+    (w w' : Option (List ℕ)) (d d' : Device) (k k' : ℕ) (m : Mode) (r : Result Unit Unheld)
+    → OnOk r (RunsAndWrites program commands m d w k d' w' k')
+    → IfErr r (λ why. BreaksOff why s program commands m d w k d' w' k') → OnOk r (s ≡ Awake)
+    → AnswersAs program commands m (status_of r) s w w' d d' k k'
+answers_so program commands s w w' d d' k k' m (Ok u) all broken kept = (all, kept)
+answers_so program commands s w w' d d' k k' m (Err unheld.NoMemory) all broken kept = broken
+answers_so program commands s w w' d d' k k' m (Err unheld.WriteFault) all broken kept = broken
+answers_so program commands s w w' d d' k k' m (Err unheld.GivenUp) all broken kept = broken
 
 -- the same of a status and of commands by other names
-pub held_ran_as : (program : Program) (own commands : List Command) (words : List ℤ)
-    (s : MirrorState) (result : Status) (w w1 w' : Option (List ℕ)) (d b d' : Device)
-    (k k1 k' : ℕ) (answer : Answer) (m : Mode) (r : Result Unit Unheld) → result ≡ status_of r
-    → own ≡ commands → Opens program words d answer m b k k1 → Appends w w1 (answer_text answer)
-    → OnOk r (RunsAndWrites program own m b w1 k1 d' w' k')
-    → IfErr r (λ why. BreaksOff why s program own m b w1 k1 d' w' k') → OnOk r (s ≡ Awake)
+pub answers_as : (program : Program) (own commands : List Command) (s : MirrorState)
+    (result : Status) (w w' : Option (List ℕ)) (d d' : Device) (k k' : ℕ) (m : Mode)
+    (r : Result Unit Unheld) → result ≡ status_of r → own ≡ commands
+    → OnOk r (RunsAndWrites program own m d w k d' w' k')
+    → IfErr r (λ why. BreaksOff why s program own m d w k d' w' k') → OnOk r (s ≡ Awake)
+    → AnswersAs program commands m result s w w' d d' k k'
+answers_as program own commands s result w w' d d' k k' m r is same all broken kept =
+    subst (λ (t : Status). AnswersAs program commands m t s w w' d d' k k') (sym is)
+    (subst (λ (cs : List Command). AnswersAs program cs m (status_of r) s w w' d d' k k') same
+    (answers_so program own s w w' d d' k k' m r all broken kept))
+
+-- the pool is opened, and then its commands are answered
+pub held_ran : (program : Program) (commands : List Command) (words : List ℤ) (s s1 : MirrorState)
+    (result : Status) (w w1 w' : Option (List ℕ)) (d b d' : Device) (k k1 k' : ℕ) (m : Mode)
+    → OpensTold program words m s1 w w1 d b k k1
+    → AnswersAs program commands m result s w1 w' b d' k1 k'
     → HeldAs program commands words result s w w' d d' k k'
-held_ran_as program own commands words s result w w1 w' d b d' k k1 k' answer m r is same opens line
-    all broken kept =
-    subst (λ (t : Status). HeldAs program commands words t s w w' d d' k k') (sym is)
-    (subst (λ (cs : List Command). HeldAs program cs words (status_of r) s w w' d d' k k') same
-    (held_ran program own words s w w1 w' d b d' k k1 k' answer m r opens line all broken kept))
+held_ran program commands words s s1 status.Done w w1 w' d b d' k k1 k' m opens ends =
+    ((λ e. ends.1), inl (opens.0, m, b, w1, k1, opens.1, opens.2, ends.0))
+held_ran program commands words s s1 status.NoMemory w w1 w' d b d' k k1 k' m opens ends =
+    ((λ e. cc), inl (inr (inr (opens.0, m, b, w1, k1, opens.1, opens.2, ends))))
+held_ran program commands words s s1 status.WriteFault w w1 w' d b d' k k1 k' m opens ends =
+    ((λ e. cc), inl (inr (opens.0, m, b, w1, k1, opens.1, opens.2, ends)))
+held_ran program commands words s s1 status.DeviceFault w w1 w' d b d' k k1 k' m opens ends =
+    ((λ e. cc), inr (refl, ends.1, (opens.0, m, b, w1, k1, opens.1, opens.2, ends.0)))
+held_ran program commands words s s1 status.Usage w w1 w' d b d' k k1 k' m opens ends =
+    absurd ends
+held_ran program commands words s s1 status.Program w w1 w' d b d' k k1 k' m opens ends =
+    absurd ends
+held_ran program commands words s s1 status.Script w w1 w' d b d' k k1 k' m opens ends =
+    absurd ends
+held_ran program commands words s s1 status.ReadFault w w1 w' d b d' k k1 k' m opens ends =
+    absurd ends
+held_ran program commands words s s1 status.Image w w1 w' d b d' k k1 k' m opens ends =
+    absurd ends
+held_ran program commands words s s1 status.PoolBusy w w1 w' d b d' k k1 k' m opens ends =
+    absurd ends
 
 -- the run ends at the answer of the opening
 pub held_broken : (program : Program) (commands : List Command) (words : List ℤ) (s : MirrorState)
@@ -148,6 +171,79 @@ held_broken program commands words s w w' d d' k k' answer m unheld.GivenUp open
     (answer, m, d', w', k', opens, ends.0, ([], commands, refl, (refl, refl, refl))),
   ),
 )
+
+-- some of no commands are some of any
+some_of_none : (program : Program) (commands : List Command) (m : Mode) (w w' : Option (List ℕ))
+    (d d' : Device) (k k' : ℕ) → RunsSome program [] m d w k d' w' k'
+    → RunsSome program commands m d w k d' w' k'
+some_of_none program commands m w w' d d' k k' ([], rest, is, runs) = ([], commands, refl, runs)
+some_of_none program commands m w w' d d' k k' (x ∷ first, rest, is, runs) = absurd (cc)
+
+-- a part of none is a part of the opening's answer
+part_of_none : (program : Program) (commands : List Command) (words : List ℤ)
+    (w w' : Option (List ℕ)) (d d' : Device) (k k' : ℕ) → OpensPart program [] words w w' d d' k k'
+    → OpensPart program commands words w w' d d' k k'
+part_of_none program commands words w w' d d' k k' (inl part) = inl part
+part_of_none program commands words w w' d d' k k'
+    (inr (answer, m, b, w1, k1, opens, line, part)) = absurd part
+
+-- what a status says, where not all is done
+as_early : (unmade : StartFault → Type 0) (part more all every : Type 0) (result : Status)
+    → result ≢ status.Done → (part → more) → AsStatus unmade part all part result
+    → AsStatus unmade more every more result
+as_early unmade part more all every status.Done undone widen says = absurd (undone refl)
+as_early unmade part more all every status.NoMemory undone widen (inl un) = inl un
+as_early unmade part more all every status.NoMemory undone widen (inr some) = inr (widen some)
+as_early unmade part more all every status.WriteFault undone widen says = widen says
+as_early unmade part more all every status.DeviceFault undone widen says = says
+as_early unmade part more all every status.Usage undone widen says = says
+as_early unmade part more all every status.Program undone widen says = says
+as_early unmade part more all every status.Script undone widen says = says
+as_early unmade part more all every status.ReadFault undone widen says = says
+as_early unmade part more all every status.Image undone widen says = says
+as_early unmade part more all every status.PoolBusy undone widen says = says
+
+-- a run that ended before its first command is one of any commands
+pub held_early : (program : Program) (commands : List Command) (words : List ℤ) (s : MirrorState)
+    (result : Status) (w w' : Option (List ℕ)) (d d' : Device) (k k' : ℕ) → result ≢ status.Done
+    → HeldAs program [] words result s w w' d d' k k'
+    → HeldAs program commands words result s w w' d d' k k'
+held_early program commands words s result w w' d d' k k' undone (done, inl opened) = (
+  done,
+  inl (as_early (λ why. Unopened program words why w w' d d' k k') _ _ _ _ result undone
+      (part_of_none program commands words w w' d d' k k') opened),
+)
+held_early program commands words s result w w' d d' k k' undone
+    (done, inr (is, lost, (answer, m, b, w1, k1, opens, line, some))) =
+    let more = some_of_none program commands m w1 w' b d' k1 k' some in
+    (done, inr (is, lost, (answer, m, b, w1, k1, opens, line, more)))
+
+-- a new pool's commands are answered
+new_answered : (program : Program) (commands : List Command) (s : MirrorState) (result : Status)
+    (w told w' : Option (List ℕ)) (d d' : Device) (k k' : ℕ) → Appends w told created_line
+    → AnswersAs program commands Ready result s told w' d d' k k'
+    → NewAs program commands result s w w' d d' k k'
+new_answered program commands s status.Done w told w' d d' k k' line ends = (told, line, ends)
+new_answered program commands s status.NoMemory w told w' d d' k k' line ends = (told, line, ends)
+new_answered program commands s status.WriteFault w told w' d d' k k' line ends =
+    inr (told, line, ends)
+new_answered program commands s status.DeviceFault w told w' d d' k k' line ends = (told, line, ends)
+new_answered program commands s status.Usage w told w' d d' k k' line ends = absurd ends
+new_answered program commands s status.Program w told w' d d' k k' line ends = absurd ends
+new_answered program commands s status.Script w told w' d d' k k' line ends = absurd ends
+new_answered program commands s status.ReadFault w told w' d d' k k' line ends = absurd ends
+new_answered program commands s status.Image w told w' d d' k k' line ends = absurd ends
+new_answered program commands s status.PoolBusy w told w' d d' k k' line ends = absurd ends
+
+-- the same of a session that is ready, on a device by another name
+pub new_ran : (program : Program) (commands : List Command) (s : MirrorState) (result : Status)
+    (m : Mode) (w told w' : Option (List ℕ)) (d e d' : Device) (k k' : ℕ) → m ≡ Ready → e ≡ d
+    → Appends w told created_line → AnswersAs program commands m result s told w' e d' k k'
+    → NewAs program commands result s w w' d d' k k'
+new_ran program commands s result m w told w' d e d' k k' ready same line ends =
+    new_answered program commands s result w told w' d d' k k' line
+    (subst (λ (x : Mode). AnswersAs program commands x result s told w' d d' k k') ready
+    (subst (λ (x : Device). AnswersAs program commands m result s told w' x d' k k') same ends))
 
 -- the file of the words that were opened mirrors the device
 pub opened_mirror : (c a : Option FileLines) (m n : Memory) (lines : ℕ) (words : List ℤ)

@@ -1,6 +1,6 @@
 -- A run on the pool of a file: its lines lie in a device that is mirrored in the file. It ends as a
 -- run on an image's pool does; or the file refused something, and the run ended there.
-use Rattle.std.specs.Prelude.{ℕ, ℤ, List, [], ◌∷◌, ◌++◌, Option, ◌≡◌, ◌⊎◌, ◌≢◌, Result}
+use Rattle.std.specs.Prelude.{ℕ, ℤ, List, ◌++◌, Option, ◌≡◌, ◌⊎◌, ◌≢◌, Result}
 use Rattle.std.specs.Prelude.{◌*◌, codes}
 use Rattle.std.specs.Prelude.{Ok, Err}
 use Rattle.std.specs.Io.KnownBytes.{Appends}
@@ -68,6 +68,26 @@ status_of (Ok u) = status.Done
 status_of (Err unheld.NoMemory) = status.NoMemory
 status_of (Err unheld.WriteFault) = status.WriteFault
 status_of (Err unheld.GivenUp) = status.DeviceFault
+
+-- the pool of these words is opened, its answer is written, and the file mirrors the device
+abbrev pub OpensTold : Program → List ℤ → Mode → MirrorState → Option (List ℕ) → Option (List ℕ)
+    → Device → Device → (k k' : ℕ) → Type 0
+OpensTold program words m s w w' d d' k k' =
+    (answer : Answer) × Opens program words d answer m d' k k'
+    × Appends w w' (answer_text answer) × (s ≡ Awake)
+
+-- The commands are all answered, or a part, or some until the file refused something.
+abbrev pub AnswersAs : Program → List Command → Mode → Status → MirrorState → Option (List ℕ)
+    → Option (List ℕ) → Device → Device → (k k' : ℕ) → Type 0
+AnswersAs program commands m status.Done s w w' d d' k k' =
+    RunsAndWrites program commands m d w k d' w' k' × (s ≡ Awake)
+AnswersAs program commands m status.NoMemory s w w' d d' k k' =
+    RunsPart program commands m d w k d' w' k'
+AnswersAs program commands m status.WriteFault s w w' d d' k k' =
+    RunsPart program commands m d w k d' w' k'
+AnswersAs program commands m status.DeviceFault s w w' d d' k k' =
+    RunsSome program commands m d w k d' w' k' × (s ≢ Awake)
+AnswersAs program commands m _ s w w' d d' k k' = ⊥
 
 -- How a run on the pool of a file ends, which holds these words, by its status and the file's
 -- state. After status 0 the file mirrors the device.

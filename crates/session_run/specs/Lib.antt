@@ -1,5 +1,6 @@
 pub mod AsStatus
 pub mod Commands
+pub mod Moved
 pub mod Held
 pub mod Made
 pub mod Saved

@@ -1,19 +1,22 @@
 //! Runs commands on the pool of a file.
 
-ghost use Rattle.std.specs.Prelude.{◌≡◌, ◌≢◌, ◌≤◌, ◌*◌, OnOk, IfErr, IsErrOf};
+ghost use Rattle.std.specs.Prelude.{◌≡◌, ◌≢◌, ◌≤◌, ◌*◌, [], OnOk, OnErr, IfOk, IfErr, IsErrOf};
 ghost use Rattle.std.specs.Io.KnownBytes.{Appends};
 ghost use Rattle.nvm_base.specs.Rose.{Rose};
 ghost use Rattle.cache_model.specs.Cache.{view};
 ghost use Rattle.pm_machine.specs.HeapPool.{words_from};
 ghost use Rattle.pool_layout.specs.Sizes.{pool_lines};
 ghost use Rattle.cnvm_session.specs.declared.mode.Mode.TheVariants.{Ready};
+ghost use Rattle.cnvm_session.specs.Opening.{opening_events};
+ghost use Rattle.cnvm_session.specs.Outcomes.{Opens};
+ghost use Rattle.cnvm_session.specs.Unmade.{IsUnmade};
 ghost use Rattle.file_pmem.specs.File.{HoldsWords};
 ghost use Rattle.file_pmem.specs.Mirror.{file_device};
 ghost use Rattle.file_pmem.specs.declared.link.MirrorState.TheVariants.{Awake};
 ghost use Rattle.cnvm_session.specs.AnswerText.{answer_text};
 ghost use Rattle.session_run.specs.Commands.{RunsAndWrites};
 ghost use Rattle.session_run.specs.Held.{EndsAt, BreaksOff, status_of, HeldAs, CreatesWords};
-ghost use Rattle.session_run.specs.Held.{NewAs};
+ghost use Rattle.session_run.specs.Held.{OpensTold, AnswersAs, NewAs};
 
 use crate::image::words_of;
 use crate::status::Status;
@@ -113,6 +116,105 @@ fn status_of(answered: Result<(), Unheld>) -> Status
     }
 }
 
+/// Opens the pool with these words, which are those of the file, mirrors it in the file, and gives
+/// the answer of the recovery that opens it.
+pub fn start_held<N: Lines + Drop, F: LineFile + Drop, L: Ledger>(
+    alloc: Global,
+    program: &Program,
+    words: &[i64],
+    file: F,
+    dev: &mut FilePmem<N, F>,
+    steps: &mut Steps<L>,
+) -> Result<(Session, Answer), StartFault>
+    requires holds { HoldsWords (F.content file)
+        (pool_lines program.now.image.parts.sizes) words.now }
+    ensures opens { IfOk result (λ r. Opens program.now words.now (file_device N.memory dev.old) r.1
+        r.0 (file_device N.memory dev.new) steps.old steps.new) }
+    ensures lines { OnOk result ((file_device N.memory dev.new).lines
+        ≡ pool_lines program.now.image.parts.sizes) }
+    ensures refused { IfErr result (λ why. IsUnmade why (pool_lines program.now.image.parts.sizes)
+        (opening_events (pool_lines program.now.image.parts.sizes) words.now)
+        (file_device N.memory dev.old) (file_device N.memory dev.new)) }
+    ensures unstepped { OnErr result (steps.new ≡ steps.old) }
+{
+    match open_pool(program.image.sizes(), words, dev) {
+        Ok(()) => (),
+        Err(fault) => return Err(fault),
+    }
+    dev.know();
+    dev.hold(file);
+    dev.wake();
+    Ok(resume(alloc, program, dev, steps))
+}
+
+/// Opens the pool with these words, which are those of the file, mirrors it in the file, and writes
+/// how it was recovered. Or a run ends so before its first command.
+pub fn open_held<K: Sink, N: Lines + Drop, F: LineFile + Drop, L: Ledger>(
+    alloc: Global,
+    program: &Program,
+    words: &[i64],
+    file: F,
+    traps: &mut Traps,
+    out: &mut K,
+    dev: &mut FilePmem<N, F>,
+    steps: &mut Steps<L>,
+) -> Result<Session, Status>
+    requires holds { HoldsWords (F.content file)
+        (pool_lines program.now.image.parts.sizes) words.now }
+    ensures opened { IfOk result (λ session. OpensTold program.now words.now session
+        dev.new.link.state (K.written out.old) (K.written out.new) (file_device N.memory dev.old)
+        (file_device N.memory dev.new) steps.old steps.new) }
+    ensures lines { OnOk result ((file_device N.memory dev.new).lines
+        ≡ pool_lines program.now.image.parts.sizes) }
+    ensures ended { IfErr result (λ status. HeldAs program.now [] words.now status
+        dev.new.link.state (K.written out.old) (K.written out.new) (file_device N.memory dev.old)
+        (file_device N.memory dev.new) steps.old steps.new) }
+    ensures undone { IsErrOf result Status.Done → ⊥ }
+    ensures read { IsErrOf result Status.ReadFault → ⊥ }
+    ensures usage { IsErrOf result Status.Usage → ⊥ }
+    ensures busy { IsErrOf result Status.PoolBusy → ⊥ }
+    ensures write { IsErrOf result Status.WriteFault → Rose (K.faults out.old) (K.faults out.new) }
+    ensures count { K.faults out.old ≤ K.faults out.new }
+{
+    let (session, answer) = match start_held(alloc, program, words, file, dev, steps) {
+        Ok(started) => started,
+        Err(StartFault::Failed) => return Err(Status::DeviceFault),
+        Err(StartFault::NoMemory) => return Err(Status::NoMemory),
+    };
+    traps.saw(&answer, &session);
+    match answer_kept(alloc, &answer, out, dev) {
+        Ok(()) => Ok(session),
+        Err(why) => Err(status_of(Err(why))),
+    }
+}
+
+/// Runs the script's commands on a pool that is mirrored in its file, and writes each answer before
+/// the next.
+pub fn answer_script<K: Sink, N: Lines + Drop, F: LineFile + Drop, L: Ledger>(
+    alloc: Global,
+    program: &Program,
+    script: &Script,
+    session: &mut Session,
+    traps: &mut Traps,
+    out: &mut K,
+    dev: &mut FilePmem<N, F>,
+    steps: &mut Steps<L>,
+) -> Status
+    requires lines { (file_device N.memory dev.old).lines
+        ≡ pool_lines program.now.image.parts.sizes }
+    requires awake { dev.old.link.state ≡ Awake }
+    ensures read { result ≢ Status.ReadFault }
+    ensures usage { result ≢ Status.Usage }
+    ensures busy { result ≢ Status.PoolBusy }
+    ensures write { result ≡ Status.WriteFault → Rose (K.faults out.old) (K.faults out.new) }
+    ensures answered { AnswersAs program.now script.now session.old result dev.new.link.state
+        (K.written out.old) (K.written out.new) (file_device N.memory dev.old)
+        (file_device N.memory dev.new) steps.old steps.new }
+{
+    let commands = script.as_slice();
+    status_of(answer_held(alloc, program, commands, session, traps, out, dev, steps))
+}
+
 /// Opens the pool with these words, which are those of the file, mirrors it in the file, and writes
 /// how it was recovered; then runs the script's commands, and writes each answer before the next.
 pub fn run_held<K: Sink, N: Lines + Drop, F: LineFile + Drop, L: Ledger>(
@@ -136,31 +238,18 @@ pub fn run_held<K: Sink, N: Lines + Drop, F: LineFile + Drop, L: Ledger>(
         (K.written out.old) (K.written out.new) (file_device N.memory dev.old)
         (file_device N.memory dev.new) steps.old steps.new }
 {
-    match open_pool(program.image.sizes(), words, dev) {
-        Ok(()) => (),
-        Err(StartFault::Failed) => return Status::DeviceFault,
-        Err(StartFault::NoMemory) => return Status::NoMemory,
-    }
-    dev.know();
-    dev.hold(file);
-    dev.wake();
-    let (mut session, answer) = resume(alloc, program, dev, steps);
-    traps.saw(&answer, &session);
-    match answer_kept(alloc, &answer, out, dev) {
-        Ok(()) => {
-            let commands = script.as_slice();
-            status_of(answer_held(
-                alloc,
-                program,
-                commands,
-                &mut session,
-                traps,
-                out,
-                dev,
-                steps,
-            ))
-        }
-        Err(why) => status_of(Err(why)),
+    match open_held(alloc, program, words, file, traps, out, dev, steps) {
+        Ok(mut session) => answer_script(
+            alloc,
+            program,
+            script,
+            &mut session,
+            traps,
+            out,
+            dev,
+            steps,
+        ),
+        Err(status) => status,
     }
 }
 
@@ -217,15 +306,5 @@ pub fn run_new<K: Sink, N: Lines + Drop, F: LineFile + Drop, L: Ledger>(
     if let Err(_) = write_all(out, CREATED.as_bytes()) {
         return Status::WriteFault;
     }
-    let commands = script.as_slice();
-    status_of(answer_held(
-        alloc,
-        program,
-        commands,
-        &mut session,
-        traps,
-        out,
-        dev,
-        steps,
-    ))
+    answer_script(alloc, program, script, &mut session, traps, out, dev, steps)
 }

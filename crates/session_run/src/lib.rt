@@ -7,13 +7,15 @@
 mod commands;
 mod held;
 mod image;
+mod moving;
 mod runs;
 mod status;
 mod storm;
 mod writing;
 
-pub use held::{create_held, run_held, run_new};
+pub use held::{answer_script, create_held, open_held, run_held, run_new, start_held};
 pub use image::save;
+pub use moving::move_held;
 pub use runs::{run_created, run_from};
 pub use status::Status;
 pub use storm::{Tally, storm_over};

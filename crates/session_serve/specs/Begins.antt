@@ -3,6 +3,8 @@ use Rattle.std.specs.Prelude.{ℕ, ℤ, List, ◌++◌, Option, Result, Ok, Err,
 use Rattle.std.specs.Io.KnownBytes.{Appends}
 use Rattle.nvm_base.specs.Parts.{AppendsPart}
 use Rattle.pmem.specs.Device.{Device}
+use Rattle.file_pmem.specs.declared.link.MirrorState.{MirrorState}
+use Rattle.file_pmem.specs.declared.link.MirrorState.TheVariants.{Awake}
 use Rattle.cnvm_session.specs.declared.answer.Answer.{Answer}
 use Rattle.cnvm_session.specs.declared.creating.StartFault.{StartFault}
 use Rattle.cnvm_session.specs.declared.mode.Mode.{Mode}
@@ -69,3 +71,18 @@ OpenedServed (Ok end) left left' program words d w k d' w' k' =
     × ServedAfter end (ended_text answer) left left' program m b w k1 d' w' k'
 OpenedServed (Err why) left left' program words d w k d' w' k' =
     Unopened program words why w w' d d' k k'
+
+-- The pool of these words is opened, its answer is written, and the file mirrors the device.
+abbrev pub OpensTold : Program → List ℤ → Mode → MirrorState → Option (List ℕ) → Option (List ℕ)
+    → Device → Device → (k k' : ℕ) → Type 0
+OpensTold program words m s w w' d d' k k' =
+    (answer : Answer) × Opens program words d answer m d' k k'
+    × Appends w w' (ended_text answer) × (s ≡ Awake)
+
+-- serving ends so at the opening of these words
+abbrev pub OpeningEnds : Result Served StartFault → Program → List ℤ → Option (List ℕ)
+    → Option (List ℕ) → Device → Device → (k k' : ℕ) → Type 0
+OpeningEnds (Ok end) program words w w' d d' k k' =
+    (answer : Answer) × (m : Mode) × Opens program words d answer m d' k k'
+    × EndsFirst end (ended_text answer) w w'
+OpeningEnds (Err why) program words w w' d d' k k' = Unopened program words why w w' d d' k k'

@@ -13,6 +13,6 @@ mod standing;
 
 pub use bad_lines::{BadLines, NoNotes};
 pub use line_reader::{LineReader, ReadLineFault};
-pub use opening::{serve_created, serve_held, serve_made};
+pub use opening::{open_served, serve_created, serve_held, serve_made};
 pub use serving::{Served, serve};
 pub use standing::{InFile, InMemory, Watch};

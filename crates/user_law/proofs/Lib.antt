@@ -3,9 +3,13 @@ pub mod Moving
 pub mod Staying
 pub mod Keeping
 pub mod Counting
+pub mod Picking
 pub mod Playing
 pub mod Meaning
 pub mod Sealing
 pub mod Owing
 pub mod Stepping
 pub mod Ending
+pub mod Answering
+pub mod Determining
+pub mod Meeting

@@ -31,6 +31,7 @@ use Rattle.user_law.proofs.Keeping.{keeps_law}
 use Rattle.user_law.proofs.Meaning.{meant_law}
 use Rattle.user_law.proofs.Moving.{not_next}
 use Rattle.user_law.proofs.Owing.{step_phased}
+use Rattle.user_law.proofs.Picking.{pick_told}
 use Rattle.user_law.proofs.Playing.{played_law}
 
 -- the list is empty, or this one
@@ -193,6 +194,7 @@ module _ (program : Program) (super : Words) (logs : Logs) (agrees : Agrees prog
           events = played.0;
           few = played.1;
           played = played.2;
+          picks = pick_told program c x.mode y.mode x.device y.device a x.steps y.steps step.did;
           meant = meant.2;
           kept = keeps_law program logs super y.mode y.device v after
               (step_phased program super logs agrees x.mode y.mode x.device y.device s x.steps

@@ -9,3 +9,5 @@ pub mod Run
 pub mod Seen
 pub mod Stays
 pub mod Ends
+pub mod Determined
+pub mod Met

@@ -1,8 +1,11 @@
 -- What a user sees of the device: a list of stores, flushes and fences, which is played on cache
 -- lines; where it is cut; and the most events that a command may have.
-use Rattle.std.specs.Prelude.{ℕ, ◌+◌, ◌*◌, ◌≡◌, ◌⊎◌, List}
+use Rattle.std.specs.Prelude.{ℕ, ◌+◌, ◌*◌, ◌≡◌, ◌⊎◌, List, Option, Some, None}
+use Rattle.std.specs.Option.{option_or}
+use Rattle.cache_model.specs.Collapse.{bad}
 use Rattle.cache_model.specs.Event.{CacheEvent}
-use Rattle.pmem.specs.Device.{Device, powered, with_left, with_armed}
+use Rattle.cache_model.specs.declared.choice.Choice.{Choice}
+use Rattle.pmem.specs.Device.{Device, memory_of, powered, with_left, with_armed}
 use Rattle.pmem.specs.Played.{PlaysAll, PlaysPart}
 use Rattle.pmem.specs.declared.answer.Refusal.TheVariants as refusal
 use Rattle.codegen.specs.Emit.{most_steps}
@@ -10,6 +13,7 @@ use Rattle.cnvm_script.specs.declared.command.Command.{Command}
 use Rattle.cnvm_script.specs.declared.command.Command.TheVariants as command
 use Rattle.cnvm_session.specs.declared.answer.Answer.{Answer}
 use Rattle.cnvm_session.specs.declared.answer.Answer.TheVariants as answer
+use Rattle.cnvm_session.specs.Commands.{fallen}
 use Rattle.user_law.specs.Source.{Source}
 
 -- the device on which a command's events are played: a cut leaves one version of each line, and
@@ -20,6 +24,17 @@ prepared (command.Power choice) a d = powered choice d
 prepared (command.Stop left) a d = with_left left d
 prepared (command.Fault at) a d = with_armed at d
 prepared c a d = d
+
+-- The line of the first pick that doesn't fit: its line isn't above that of the pick before it, or
+-- the memory has no such line or version.
+abbrev pub unfit : Choice → Device → Option ℕ
+unfit choice d = option_or (fallen 0 choice.picks) (bad (memory_of d) choice.picks)
+
+-- A power cut is refused for a pick exactly if one doesn't fit, and then with the line of the first.
+abbrev pub TellsPick : Command → Answer → Device → Type 0
+TellsPick (command.Power choice) (answer.RefusedPick line) d = unfit choice d ≡ Some line
+TellsPick (command.Power choice) a d = unfit choice d ≡ None
+TellsPick c a d = Unit {0}
 
 -- All events are played where a transaction or a recovery came to its end; some first ones where
 -- the power went, the device failed, or memory was wanting at the next; none else.

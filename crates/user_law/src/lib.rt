@@ -7,6 +7,9 @@
 ghost use Rattle.user_law.specs.Stays.{StaysLaw, UserWholeLaw, UserKeptLaw, HeadLaw, RunHeadLaw};
 ghost use Rattle.user_law.specs.Ends.{UserUninterruptedLaw, QuietScriptLaw, UserCallEndsLaw};
 ghost use Rattle.user_law.specs.Ends.{UserRecoveryEndsLaw};
+ghost use Rattle.user_law.specs.Determined.{OneStateLaw, OneEndLaw, SameAnswersLaw, SameScriptLaw};
+ghost use Rattle.user_law.specs.Determined.{SameOutputLaw, SomeEndLaw, OnePickLaw};
+ghost use Rattle.user_law.specs.Met.{StepMetLaw, RunMetLaw, CallMetLaw, CutMetLaw, CountNeededLaw};
 ghost use Rattle.user_law.specs.Seen.{KeepsLaw, PlayedLaw, MeantLaw, SealKeptLaw, StepLaw, RanLaw};
 
 /// Of each chain, whatever the device and the machine are: once an image had the seal of a call,
@@ -39,4 +42,26 @@ pub fn seen_law()
     ensures seal { SealKeptLaw }
     ensures step { StepLaw }
     ensures ran { RanLaw }
+{}
+
+/// An answer tells what the user knows after it, and a command has one end. So where each command
+/// comes to its end, a script has one list of answers, whatever the devices are. It does nothing.
+pub fn determined_law()
+    ensures state { OneStateLaw }
+    ensures end { OneEndLaw }
+    ensures some { SomeEndLaw }
+    ensures pick { OnePickLaw }
+    ensures answers { SameAnswersLaw }
+    ensures script { SameScriptLaw }
+    ensures output { SameOutputLaw }
+{}
+
+/// The premises of the laws of chains can be met: by a new pool, a run of each text that has a
+/// meaning, a call that comes to its end, and one that is cut off at its seal. It does nothing.
+pub fn met_law()
+    ensures step { StepMetLaw }
+    ensures run { RunMetLaw }
+    ensures call { CallMetLaw }
+    ensures cut { CutMetLaw }
+    ensures count { CountNeededLaw }
 {}

@@ -366,6 +366,7 @@ module _ (program : Program) (super : Words) where
       pool = up.1.holds.pool;
       done = up.1.before.good.done;
       last = up.1.before.last_is;
+      mark = up.1.before.good.mark;
     },
   )
   holds_up (Down None) worker o d s held up = up

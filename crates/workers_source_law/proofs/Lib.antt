@@ -9,3 +9,8 @@ pub mod Commands
 pub mod Runs
 pub mod Scripts
 pub mod FaultLines
+pub mod Counts
+pub mod OwnLines
+pub mod GivenLines
+pub mod Alones
+pub mod OwnHistories

@@ -36,7 +36,7 @@ use Rattle.workers_source_law.proofs.Commands.{command_gives, all_hold}
 
 -- new compartments
 
-count_new : (n : ℕ) → length (replicate {A = Option Task} n None) ≡ n
+pub count_new : (n : ℕ) → length (replicate {A = Option Task} n None) ≡ n
 count_new zero = refl
 count_new (suc n) = ap suc (count_new n)
 

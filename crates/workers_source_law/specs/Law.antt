@@ -50,13 +50,14 @@ pub record Instant : Type 0 where
   pub states : States
 
 -- The view of a compartment has the state's number of transactions finished and its value of the
--- last, and its heap holds the source's pool.
+-- last, and no mark; and its heap holds the source's pool.
 pub record HoldsState (program : Program) (worker : ℕ) (d : Device) (s : SourceState) :
     Type 0 where
   pub pool : source_pool program
       (heap_in (sizes_of program) (compartment program.image worker d).cache) ≡ s.pool
   pub done : view (compartment program.image worker d).cache DONE ≡ pos s.done
   pub last : view (compartment program.image worker d).cache LAST ≡ s.last
+  pub mark : view (compartment program.image worker d).cache MARK ≡ pos 0
 
 -- The compartment of an idle worker holds the worker's state, or has the mark of its trap; a
 -- worker that owes a transaction is in the middle of running it.

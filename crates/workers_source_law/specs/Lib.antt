@@ -2,3 +2,5 @@ pub mod States
 pub mod Lines
 pub mod Law
 pub mod FaultsTold
+pub mod Alone
+pub mod OwnHistory

@@ -7,6 +7,9 @@
 
 ghost use Rattle.workers_source_law.specs.Law.{WorkersLaw, WorkersPartLaw, ArgsLaw};
 ghost use Rattle.workers_source_law.specs.FaultsTold.{ToldFaultLaw, RunFaultLaw};
+ghost use Rattle.workers_source_law.specs.Alone.{AloneLaw, AlonePartLaw, AsCallLaw};
+ghost use Rattle.workers_source_law.specs.OwnHistory.{OwnSealedLaw, OwnHistoryLaw, OwnPoolLaw};
+ghost use Rattle.workers_source_law.specs.OwnHistory.{AloneNewLaw};
 
 /// Each line of a script of workers is what the source gives. The function does nothing.
 pub fn source_law()
@@ -20,4 +23,17 @@ pub fn source_law()
 pub fn fault_law()
     ensures command { ToldFaultLaw }
     ensures run { RunFaultLaw }
+{}
+
+/// Each worker is as if it were alone: its own lines, and no others, lead from its first state to
+/// its last, and are those of a session. It finishes each transaction that it began at most once,
+/// in order. The function does nothing.
+pub fn alone_law()
+    ensures run { AloneLaw }
+    ensures part { AlonePartLaw }
+    ensures call { AsCallLaw }
+    ensures sealed { OwnSealedLaw }
+    ensures history { OwnHistoryLaw }
+    ensures pool { OwnPoolLaw }
+    ensures new { AloneNewLaw }
 {}

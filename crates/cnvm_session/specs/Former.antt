@@ -1,0 +1,64 @@
+-- Which struct of a program's former text differs in its new one. Where none does, a pool of the
+-- former program is one of the new program: the roots have the same fields, and the new program's
+-- numbered structs begin with the former one's, each with the same name and fields.
+use Rattle.std.specs.Prelude.{ℕ, List, [], ◌∷◌, Bool, true, false, Option, Some, None}
+use Rattle.std.specs.Prelude.{if◌then◌else◌, ◌&&◌, slice_get}
+use Rattle.std.specs.Option.{option_map_or}
+use Rattle.std.specs.Ordering.{int_eq}
+use Rattle.std.specs.Str.{bytes_eq}
+use Rattle.c_tree.specs.ItemTree.{FieldTree, LengthTree}
+use Rattle.c_tree.specs.StmtTree.{TypeTree, Int, Pointer}
+use Rattle.c_tree.specs.Program.{Program, tree_of}
+use Rattle.c_types.specs.Tables.{Tables, StructTree, RootTree, tables_of}
+use Rattle.c_types.specs.Shapes.{root_fields, numbered}
+
+abbrev pub is_same_type : TypeTree → TypeTree → Bool
+is_same_type Int Int = true
+is_same_type (Pointer a) (Pointer b) = bytes_eq a.text b.text
+is_same_type _ _ = false
+
+abbrev pub is_same_length : Option LengthTree → Option LengthTree → Bool
+is_same_length None None = true
+is_same_length (Some m) (Some n) = int_eq m.value n.value
+is_same_length _ _ = false
+
+-- the same type, name and length
+abbrev pub is_same_field : FieldTree → FieldTree → Bool
+is_same_field f g =
+    is_same_type f.ty g.ty && (bytes_eq f.name.text g.name.text && is_same_length f.len g.len)
+
+abbrev pub are_same_fields : List FieldTree → List FieldTree → Bool
+are_same_fields [] [] = true
+are_same_fields (f ∷ fs) (g ∷ gs) = is_same_field f g && are_same_fields fs gs
+are_same_fields _ _ = false
+
+-- the same name and fields
+abbrev pub is_same_struct : StructTree → StructTree → Bool
+is_same_struct s t = bytes_eq s.name.text t.name.text && are_same_fields s.fields t.fields
+
+-- the structs after the first one, if that is the same as the former one
+abbrev pub after_same : StructTree → List StructTree → Option (List StructTree)
+after_same s [] = None
+after_same s (t ∷ ts) = if is_same_struct s t then Some ts else None
+
+-- the first of the former structs that isn't the same at its place among the new ones
+abbrev pub numbered_other : (former new : List StructTree) → Option (List ℕ)
+numbered_other [] ts = None
+numbered_other (s ∷ ss) ts =
+    option_map_or (numbered_other ss) (after_same s ts) (Some s.name.text)
+
+-- the name of the former root's struct, or of the new one's where there was no root
+abbrev pub root_name : (former new : Tables) → List ℕ
+root_name former new =
+    option_map_or (λ (r : RootTree). r.name.text) (slice_get former.roots 0)
+    (option_map_or (λ (r : RootTree). r.name.text) (slice_get new.roots 0) [])
+
+abbrev pub other_in : (former new : Tables) → Option (List ℕ)
+other_in former new =
+    if are_same_fields (root_fields former) (root_fields new)
+    then numbered_other (numbered former.structs) (numbered new.structs)
+    else Some (root_name former new)
+
+-- the first struct that differs: the root's, or else a numbered one
+abbrev pub first_other : (former new : Program) → Option (List ℕ)
+first_other former new = other_in (tables_of (tree_of former)) (tables_of (tree_of new))
