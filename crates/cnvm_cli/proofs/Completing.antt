@@ -281,13 +281,17 @@ start_is asked false text image compiled is has = tt
 start_is asked true text None compiled is has = has refl
 start_is asked true text (Some bytes) compiled is has = has refl compiled is
 
-run_kept : (asked : Asked) (p s image rest : Option (List ℕ)) (opens saves : Bool)
+abbrev told_sources : (p former s image rest : Option (List ℕ)) → Sources
+told_sources p former s image rest =
+    record { program = p; former = former; script = s; image = image; rest = rest }
+
+run_kept : (asked : Asked) (p former s image rest : Option (List ℕ)) (opens saves : Bool)
     (result : Status) (before after : Outside)
-    → IsRunServed asked (record { program = p; script = s; image = image; rest = rest }) opens
-    → RunEnds asked (record { program = p; script = s; image = image; rest = rest }) opens saves
-    result before after → IsRefusalStatus result → ⊥
-run_kept asked None s image rest opens saves result before after has ends refuses = has.0
-run_kept asked (Some text) s image rest opens saves result before after has ends refuses =
+    → IsRunServed asked (told_sources p former s image rest) opens
+    → RunEnds asked (told_sources p former s image rest) opens saves result before after
+    → IsRefusalStatus result → ⊥
+run_kept asked None former s image rest opens saves result before after has ends refuses = has.0
+run_kept asked (Some text) former s image rest opens saves result before after has ends refuses =
     ⊎_elim (λ told. quiet_kept told.0 result before.out after.out
     (texts_quiet script_meaning asked (Some text) s has.0 has.1 told.0 told.1) told.2 refuses)
     (λ ran. job_kept saves (start_if opens image) ran.0.program ran.1 result before after
@@ -419,16 +423,15 @@ plan_kept : (asked : Plan) (told : Sources) (result : Status) (before after : Ou
     → IsPlanServed asked told
     → PlanEnds asked told result before after → IsRefusalStatus result → ⊥
 plan_kept (plan.Run p s slots records ticks from save) told result before after has ends refuses =
-    run_kept (asked_by slots records ticks) told.program told.script
-    told.image told.rest (is_some from) (is_some save)
-    result before after has ends refuses
-plan_kept (plan.RunPool p s slots records ticks pool) told result before after has ends refuses =
-    has
+    run_kept (asked_by slots records ticks) told.program told.former told.script told.image
+    told.rest (is_some from) (is_some save) result before after has ends refuses
+plan_kept (plan.RunPool p s slots records ticks pool former) told result before after has ends
+    refuses = has
 plan_kept (plan.Serve p slots records ticks) told result before after has ends refuses =
     serve_kept (asked_by slots records ticks) told result before.out after.out before.dev after.dev
     before.steps after.steps has.0 has.1 ends.0 refuses
-plan_kept (plan.ServePool p slots records ticks pool) told result before after has ends refuses =
-    has
+plan_kept (plan.ServePool p slots records ticks pool former) told result before after has ends
+    refuses = has
 plan_kept (plan.List p) told result before after has ends refuses =
     list_kept told.program result before.out after.out has ends.0 refuses
 plan_kept (plan.Storm p start count slots records ticks) told result before after has

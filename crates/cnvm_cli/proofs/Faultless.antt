@@ -233,10 +233,10 @@ plan_never : (asked : Plan) (told : Sources) (before after : Outside) → IsFaul
 plan_never (plan.Run p s slots records ticks from save) told before after none meant =
     absurd (run_never (asked_by slots records ticks) told (is_some from) (is_some save) before after
     none meant)
-plan_never (plan.RunPool p s slots records ticks pool) told before after none meant = tt
+plan_never (plan.RunPool p s slots records ticks pool former) told before after none meant = tt
 plan_never (plan.Serve p slots records ticks) told before after none meant =
     absurd (serve_never (asked_by slots records ticks) told before after none meant.0)
-plan_never (plan.ServePool p slots records ticks pool) told before after none meant = tt
+plan_never (plan.ServePool p slots records ticks pool former) told before after none meant = tt
 plan_never (plan.List p) told before after none meant =
     absurd (list_never told.program before.out after.out meant.0)
 plan_never (plan.Storm p first count slots records ticks) told before after none meant =

@@ -274,10 +274,10 @@ plan_meant : (asked : Plan) (told : Sources) (result : Status) (before after : O
 plan_meant (plan.Run p s slots records ticks from save) told result before after ends =
     run_meant (asked_by slots records ticks) told (is_some from) (is_some save) result before
     after ends
-plan_meant (plan.RunPool p s slots records ticks pool) told result before after ends = ends
+plan_meant (plan.RunPool p s slots records ticks pool former) told result before after ends = ends
 plan_meant (plan.Serve p slots records ticks) told result before after ends =
     (memory_served (asked_by slots records ticks) told result before after ends.0, ends.1)
-plan_meant (plan.ServePool p slots records ticks pool) told result before after ends = ends
+plan_meant (plan.ServePool p slots records ticks pool former) told result before after ends = ends
 plan_meant (plan.List p) told result before after ends = ends
 plan_meant (plan.Storm p start count slots records ticks) told result before after ends = (
   storm_meant (asked_by slots records ticks) start count told.program result before.out after.out
@@ -308,12 +308,12 @@ pub memory_meant : (words : Option Plan) (told : Sources) (before after : Outsid
 memory_meant None told before after keeps same = (inr (inl (refl, keeps)), same)
 memory_meant (Some (plan.Run p s slots records ticks from save)) told before after keeps same =
     inl (refused.NoMemory, inl tt, (refl, keeps), same)
-memory_meant (Some (plan.RunPool p s slots records ticks pool)) told before after keeps same =
-    (same.0, same.1)
+memory_meant (Some (plan.RunPool p s slots records ticks pool former)) told before after keeps
+    same = (same.0, same.1)
 memory_meant (Some (plan.Serve p slots records ticks)) told before after keeps same =
     (inl (refused.NoMemory, tt, (refl, keeps), same.1, same.2), same.0)
-memory_meant (Some (plan.ServePool p slots records ticks pool)) told before after keeps same =
-    (same.0, same.1)
+memory_meant (Some (plan.ServePool p slots records ticks pool former)) told before after keeps
+    same = (same.0, same.1)
 memory_meant (Some (plan.List p)) told before after keeps same =
     (inl (refused.NoMemory, tt, (refl, keeps)), same)
 memory_meant (Some (plan.Storm p start count slots records ticks)) told before after keeps same =

@@ -1,12 +1,11 @@
 -- A run on the pool of a file means what the source says.
 use Rattle.std.proofs.Common.{◌≡◌, inl, inr, List, [], ◌∷◌, ◌++◌, Option, Some, None, ℕ, zero, suc}
-use Rattle.std.proofs.Common.{◌*◌, ◌/◌, length, slice_index_or, ℤ, pos, subst, sym, refl, ap}
-use Rattle.std.proofs.Common.{◌∙◌, arith}
+use Rattle.std.proofs.Common.{◌*◌, ◌/◌, length, ℤ, Bool, is_some, subst, sym, refl, ap, ◌∙◌, arith}
 use Rattle.std.specs.List.{AllByRecursion}
 use Rattle.std.specs.Io.KnownBytes.{Keeps}
 use Rattle.cache_model.specs.Cache.{Words}
 use Rattle.pmem.specs.Device.{Device}
-use Rattle.file_pmem.specs.File.{FileLines, HoldsWords, HoldsNewest}
+use Rattle.file_pmem.specs.File.{FileLines, HoldsWords}
 use Rattle.file_pmem.specs.Found.{Found, Nothing, Taken, There, Opens}
 use Rattle.file_pmem.specs.declared.pools.Held.TheVariants as held
 use Rattle.pm_machine.specs.HeapPool.{words_from}
@@ -14,7 +13,8 @@ use Rattle.pool_layout.specs.Image.{image_words}
 use Rattle.pool_layout.specs.Opened.{IsOpened}
 use Rattle.cnvm_script.specs.declared.command.Command.{Command}
 use Rattle.cnvm_session.specs.declared.program.Program.{Program}
-use Rattle.cnvm_session.specs.Pool.{wanted_of}
+use Rattle.cnvm_session.specs.Former.{first_other}
+use Rattle.cnvm_session.specs.Pool.{sizes_of, wanted_of}
 use Rattle.session_law.specs.Agrees.{Agrees}
 use Rattle.session_law.specs.Holds.{Holds}
 use Rattle.session_law.specs.Law.{IsWordCommand, super_words}
@@ -26,29 +26,29 @@ use Rattle.session_law.proofs.Opening.{opened_answers}
 use Rattle.session_law.proofs.Scripts.{script_words}
 use Rattle.session_run.specs.declared.status.Status.{Status}
 use Rattle.session_run.specs.declared.status.Status.TheVariants as status
-use Rattle.session_run.specs.Held.{FirstTold, RunsSome}
+use Rattle.session_run.specs.Held.{AnswersAs, FirstTold, RunsSome}
 use Rattle.session_run.specs.Made.{Created}
 use Rattle.cnvm_compile.specs.declared.asked.Asked.{Asked}
 use Rattle.cnvm_compile.specs.declared.compiling.Compiled.{Compiled}
 use Rattle.cnvm_compile.specs.Compilation.{IsCompiled}
-use Rattle.cnvm_cli.specs.Opened.{ImageGives}
-use Rattle.cnvm_cli.specs.Run.{RefusedAs}
-use Rattle.pool_layout.specs.declared.wanted.ImageFault.TheVariants.{Version}
-use Rattle.cnvm_cli.specs.PoolMeant.{RanSome, HeldMeant, NewMeant, FileMeant, PlanOnFile}
-use Rattle.cnvm_cli.specs.PoolMeant.{CallOnFile}
-use Rattle.cnvm_cli.specs.PoolSide.{PoolSide, MakesPool, TakesFile, RunsFile, IsUnrun, IsKept}
-use Rattle.cnvm_cli.specs.PoolSide.{TellsFile}
-use Rattle.cnvm_cli.specs.declared.refused.Refused.{Refused}
+use Rattle.file_law.specs.Moved.{moved_words}
+use Rattle.cnvm_cli.specs.Former.{moved_moment}
+use Rattle.cnvm_cli.specs.PoolMeant.{RanSome, HeldMeant, AnsweredMeant, MovedMeant, NewMeant}
+use Rattle.cnvm_cli.specs.PoolMeant.{FileMeant, PlanOnFile, CallOnFile}
+use Rattle.cnvm_cli.specs.PoolSide.{PoolSide, MakesPool, RunsFile, IsUnrun, IsKept, TellsFile}
 use Rattle.cnvm_cli.specs.declared.refused.Refused.TheVariants as refused
 use Rattle.cnvm_words.specs.declared.plan.Plan.{Plan}
 use Rattle.cnvm_words.specs.declared.plan.Plan.TheVariants as plan
 use Rattle.cnvm_cli.specs.Verdict.{HasCommands, TextsGive, asked_by}
 use Rattle.cnvm_cli.specs.World.{Sources}
-use Rattle.cnvm_cli.specs.inside.PoolEnds.{RunsOn, RunsNew, FileEnds, PlanOnFileEnds}
+use Rattle.cnvm_cli.specs.inside.PoolEnds.{RunsOn, RunsNew, RunsMoved, FileEnds, PlanOnFileEnds}
 use Rattle.cnvm_cli.proofs.Meaning.{run_all, run_part, opened_meant}
 use Rattle.cnvm_cli.proofs.Moments.{opened_to}
+use Rattle.cnvm_cli.proofs.MovedMeaning.{moves_meant}
 use Rattle.cnvm_cli.proofs.ServeMeaning.{file_served}
 use Rattle.cnvm_cli.proofs.Sources.{known_bytes}
+use Rattle.cnvm_cli.proofs.Taking.{taken_map}
+use Rattle.cnvm_cli.proofs.Usable.{sizes_same}
 
 -- the first ones of words are words
 first_words : (first rest : List Command) → AllByRecursion IsWordCommand (first ++ rest)
@@ -149,54 +149,112 @@ module _ (program : Program) (agrees : Agrees program) (commands : List Command)
   made_meant result before after (inr (inr ran)) =
       inr (inr (ran.0, ran.1, new_meant result ran.0 before after ran.1 ran.2))
 
-  image_meant : (image : Option (List ℕ)) (shown : Option FileLines) (result : Status)
+  -- the commands are answered from this moment on
+  answered_meant : (super : Words) (y : Moment) (result : Status) (told : Option (List ℕ))
+      (after : PoolSide) → Holds program super y.mode y.device y.state
+      → AnswersAs program commands y.mode result after.held.state told after.out y.device
+      after.held.device y.steps after.steps
+      → AnsweredMeant program super commands y result told after
+  answered_meant super y status.Done told after holds (ran, awake) = (
+    run_all program super agrees commands words y after.held.device told after.out after.steps holds
+        ran,
+    awake,
+  )
+  answered_meant super y status.NoMemory told after holds ran =
+      run_part program super agrees commands words y after.held.device told after.out after.steps
+      holds ran
+  answered_meant super y status.WriteFault told after holds ran =
+      run_part program super agrees commands words y after.held.device told after.out after.steps
+      holds ran
+  answered_meant super y status.DeviceFault told after holds (ran, lost) =
+      (ran_some super y told after.out after.held.device after.steps holds ran, lost)
+  answered_meant super y status.Usage told after holds ran = absurd ran
+  answered_meant super y status.Program told after holds ran = absurd ran
+  answered_meant super y status.Script told after holds ran = absurd ran
+  answered_meant super y status.ReadFault told after holds ran = absurd ran
+  answered_meant super y status.Image told after holds ran = absurd ran
+  answered_meant super y status.PoolBusy told after holds ran = absurd ran
+
+  found_meant : (takes also : Option FileLines → Type 0)
+      → ((shown : Option FileLines) → takes shown → also shown) → (result : Status)
       (before after : PoolSide)
-      → TakesFile (RunsOn program commands result before after) program image shown result before
+      → RunsFile takes (RunsNew program commands result before after) program result before after
+      → RunsFile also (λ b. NewMeant program commands result b before after) program result before
       after
-      → TakesFile (λ list. HeldMeant program commands list result before after) program image shown
-      result before after
-  image_meant image shown result before after (inl refused) = inl refused
-  image_meant image shown result before after (inr (inl silent)) = inr (inl silent)
-  image_meant image shown result before after (inr (inr (list, gives, inl other))) =
-      inr (inr (list, gives, inl other))
-  image_meant image shown result before after (inr (inr (list, gives, inr ran))) =
-      let given : ImageGives program image list = gives in
-      inr (inr (
-        list,
-        gives,
-        inr (ran.0, held_meant list given.1 given.0 result before after ran.1),
-      ))
-
-  found_meant : (image : Option (List ℕ)) (result : Status) (before after : PoolSide)
-      → RunsFile (RunsOn program commands result before after)
-      (RunsNew program commands result before after) program image result before after
-      → RunsFile (λ list. HeldMeant program commands list result before after)
-      (λ b. NewMeant program commands result b before after) program image result before after
-  found_meant image result before after (inl busy) = inl busy
-  found_meant image result before after (inr (inl silent)) = inr (inl silent)
-  found_meant image result before after (inr (inr (inl made))) =
+  found_meant takes also so result before after (inl busy) = inl busy
+  found_meant takes also so result before after (inr (inl silent)) = inr (inl silent)
+  found_meant takes also so result before after (inr (inr (inl made))) =
       inr (inr (inl (made.0, made_meant result before after made.1)))
-  found_meant image result before after (inr (inr (inr held))) =
-      inr (inr (inr (
-        held.0,
-        held.1,
-        image_meant image held.0 result before after held.2,
-      )))
+  found_meant takes also so result before after (inr (inr (inr held))) =
+      inr (inr (inr (held.0, held.1, so held.0 held.2)))
 
-pub file_meant : (asked : Asked) (told : Sources) (result : Status) (before after : PoolSide)
-    → FileEnds asked told result before after → FileMeant asked told result before after
-file_meant asked told result before after (inl refused) = inl refused
-file_meant asked told result before after (inr ran) =
+-- a run on a former pool
+module _ (former new : Program) (former_agrees : Agrees former) (agrees : Agrees new)
+    (sizes : first_other former.typed new.typed ≡ None → sizes_of new ≡ sizes_of former)
+    (commands : List Command) (words : AllByRecursion IsWordCommand commands) where
+  moved_meant : (list : List ℤ) → AreWords list → IsOpened (wanted_of former) list
+      → (result : Status) (before after : PoolSide)
+      → RunsMoved former new commands result before after list
+      → MovedMeant former new commands list result before after
+  moved_meant list are opened result before after (inl (undone, runs)) =
+      inl (undone, held_meant former former_agrees [] tt list are opened result before after runs)
+  moved_meant list are opened result before after (inr (
+    m,
+    d,
+    k,
+    told,
+    (a, opens, wrote, awake),
+    moves,
+  )) =
+      let first = open_step opened_answers former list m before.held.device d a before.steps k
+      former_agrees are opened opens in
+      let x : Moment = opened_to former list a m d k first.0 in
+      inr (
+        a,
+        x,
+        told,
+        first.1,
+        wrote,
+        moves_meant former new (image_words list) x result told after sizes first.1.holds
+            (λ (b : Device). AnswersAs new commands m result after.held.state told after.out b
+            after.held.device k after.steps)
+            (λ super y. AnsweredMeant new super commands y result told after)
+            (λ b holds answers. answered_meant new agrees commands words
+            (moved_words new (image_words list)) (moved_moment b x) result told after holds answers)
+            moves,
+      )
+
+pub file_meant : (asked : Asked) (moves : Bool) (told : Sources) (result : Status)
+    (before after : PoolSide) → FileEnds asked moves told result before after
+    → FileMeant asked moves told result before after
+file_meant asked moves told result before after (inl refused) = inl refused
+file_meant asked moves told result before after (inr ran) =
     let compiled : Compiled = ran.0 in
-    let gives : TextsGive asked told.program told.script compiled ran.1 = ran.2 in
+    let commands : List Command = ran.1 in
+    let gives : TextsGive asked told.program told.script compiled commands = ran.2 in
     let from = known_bytes told.program (λ text. IsCompiled asked text compiled) gives.0 in
-    let has = known_bytes told.script (HasCommands ran.1) gives.1 in
+    let has = known_bytes told.script (HasCommands commands) gives.1 in
+    let words : AllByRecursion IsWordCommand commands = script_words has.0 commands has.1.1 in
+    let agrees = from.1.agrees in
     inr (
       compiled,
-      ran.1,
+      commands,
       gives,
-      found_meant compiled.program from.1.agrees ran.1 (script_words has.0 ran.1 has.1.1)
-          told.image result before after ran.3,
+      found_meant compiled.program agrees commands words _ _
+          (λ shown. taken_map result before after asked told.former compiled.program told.image
+          (RunsOn compiled.program commands result before after)
+          (λ list. HeldMeant compiled.program commands list result before after)
+          (λ old. RunsMoved old.program compiled.program commands result before after)
+          (λ old list. MovedMeant old.program compiled.program commands list result before after)
+          (λ list are opened ran. held_meant compiled.program agrees commands words list are opened
+          result before after ran)
+          (λ old is list are opened ran.
+          let text = known_bytes told.former (λ t. IsCompiled asked t old) is in
+          moved_meant old.program compiled.program text.1.agrees agrees
+          (sizes_same asked old compiled text from) commands words list are opened result before
+          after ran)
+          moves shown)
+          result before after ran.3,
     )
 
 -- the plan is known
@@ -204,11 +262,11 @@ plan_on_file : (asked : Plan) (told : Sources) (result : Status) (before after :
     → PlanOnFileEnds asked told result before after
     → PlanOnFile (Some asked) told result before after
 plan_on_file (plan.Run p s slots records ticks from save) told result before after ends = ends
-plan_on_file (plan.RunPool p s slots records ticks pool) told result before after ends =
-    file_meant (asked_by slots records ticks) told result before after ends
+plan_on_file (plan.RunPool p s slots records ticks pool former) told result before after ends =
+    file_meant (asked_by slots records ticks) (is_some former) told result before after ends
 plan_on_file (plan.Serve p slots records ticks) told result before after ends = ends
-plan_on_file (plan.ServePool p slots records ticks pool) told result before after ends =
-    file_served (asked_by slots records ticks) told result before after ends
+plan_on_file (plan.ServePool p slots records ticks pool former) told result before after ends =
+    file_served (asked_by slots records ticks) (is_some former) told result before after ends
 plan_on_file (plan.List p) told result before after ends = ends
 plan_on_file (plan.Storm p start count slots records ticks) told result before after ends = ends
 plan_on_file (plan.Why p) told result before after ends = ends
@@ -237,11 +295,11 @@ memory_of_plan : (asked : Plan) (told : Sources) (before after : PoolSide)
     → PlanOnFile (Some asked) told status.NoMemory before after
 memory_of_plan (plan.Run p s slots records ticks from save) told before after keeps same =
     (same.held, same.found)
-memory_of_plan (plan.RunPool p s slots records ticks pool) told before after keeps same =
+memory_of_plan (plan.RunPool p s slots records ticks pool former) told before after keeps same =
     inl (refused.NoMemory, inl tt, (refl, keeps), same)
 memory_of_plan (plan.Serve p slots records ticks) told before after keeps same =
     (same.held, same.found)
-memory_of_plan (plan.ServePool p slots records ticks pool) told before after keeps same =
+memory_of_plan (plan.ServePool p slots records ticks pool former) told before after keeps same =
     inl (refused.NoMemory, tt, (refl, keeps), same)
 memory_of_plan (plan.List p) told before after keeps same = (same.held, same.found)
 memory_of_plan (plan.Storm p start count slots records ticks) told before after keeps same =
@@ -282,25 +340,3 @@ made_words a h ws n is holds =
     let count : length ws / 8 ≡ n = omega (arith, long) in
     subst (λ (xs : List ℤ). HoldsWords a n xs) is
     (subst (λ (m : ℕ). HoldsWords a m ws) count holds)
-
-pub newest_by : (a : Option FileLines) (l n : ℕ) (h w : List ℤ) → l ≡ n → h ≡ w
-    → HoldsNewest a l h → HoldsNewest a n w
-newest_by a l n h w count same holds =
-    subst (λ (k : ℕ). HoldsNewest a k w) count
-    (subst (λ (xs : List ℤ). HoldsNewest a l xs) same holds)
-
-pub runs_by : (program : Program) (commands : List Command) (h w : List ℤ) (result : Status)
-    (before after : PoolSide) → h ≡ w → RunsOn program commands result before after h
-    → RunsOn program commands result before after w
-runs_by program commands h w result before after same ran =
-    subst (λ (xs : List ℤ). RunsOn program commands result before after xs) same ran
-
--- the refusal of a file whose words are others
-pub version_told : (x : Refused) (given held : List ℤ) (r : Status) (w w' : Option (List ℕ))
-    → x ≡ refused.Image (Version (slice_index_or given 1 (pos 0)) (pos 2)) → given ≡ held
-    → RefusedAs x r w w'
-    → RefusedAs (refused.Image (Version (slice_index_or held 1 (pos 0)) (pos 2))) r w w'
-version_told x given held r w w' is same told =
-    subst (λ (y : Refused). RefusedAs y r w w')
-    (is ∙ ap (λ (xs : List ℤ). refused.Image (Version (slice_index_or xs 1 (pos 0)) (pos 2))) same)
-    told

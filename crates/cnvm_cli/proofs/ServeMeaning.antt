@@ -1,6 +1,6 @@
 -- Serving means what the source says.
 use Rattle.std.proofs.Common.{◌≡◌, inl, inr, List, [], ◌∷◌, ◌++◌, Option, Some, None, ℕ, ℤ, Result}
-use Rattle.std.proofs.Common.{Ok, Err, IfSome, sym, refl, ◌∙◌}
+use Rattle.std.proofs.Common.{Bool, Ok, Err, IfSome, sym, refl, ◌∙◌}
 use Rattle.cache_model.specs.Cache.{Words}
 use Rattle.pmem.specs.Device.{Device}
 use Rattle.pool_layout.specs.Image.{image_words}
@@ -11,7 +11,8 @@ use Rattle.cnvm_script.specs.Commands.{line_meaning}
 use Rattle.cnvm_session.specs.declared.creating.StartFault.{StartFault}
 use Rattle.cnvm_session.specs.declared.mode.Mode.{Mode}
 use Rattle.cnvm_session.specs.declared.program.Program.{Program}
-use Rattle.cnvm_session.specs.Pool.{wanted_of}
+use Rattle.cnvm_session.specs.Former.{first_other}
+use Rattle.cnvm_session.specs.Pool.{sizes_of, wanted_of}
 use Rattle.session_law.specs.Agrees.{Agrees}
 use Rattle.session_law.specs.Holds.{Holds}
 use Rattle.session_law.specs.Law.{IsWordCommand, super_words}
@@ -27,19 +28,25 @@ use Rattle.session_run.specs.Made.{Created}
 use Rattle.session_serve.specs.declared.serving.Served.{Served}
 use Rattle.session_serve.specs.declared.serving.Served.TheVariants as served
 use Rattle.session_serve.specs.Begins.{EndsAfter, ServedAfter, NewServed, CreatedServed}
-use Rattle.session_serve.specs.Begins.{OpenedServed}
+use Rattle.session_serve.specs.Begins.{OpenedServed, OpeningEnds}
 use Rattle.session_serve.specs.Serves.{DoesMeaning, Serves, ServesTo, ServesPart, ServingEnds}
 use Rattle.cnvm_compile.specs.declared.asked.Asked.{Asked}
 use Rattle.cnvm_compile.specs.Compilation.{IsCompiled}
-use Rattle.cnvm_cli.specs.Opened.{ImageGives}
-use Rattle.cnvm_cli.specs.PoolSide.{PoolSide, MakesPool, TakesFile, RunsFile}
+use Rattle.file_law.specs.Moved.{moved_words}
+use Rattle.cnvm_cli.specs.Former.{moved_moment}
+use Rattle.cnvm_cli.specs.PoolSide.{PoolSide, MakesPool, RunsFile}
 use Rattle.cnvm_cli.specs.Serve.{LineMeant, LinesMeant, AllMeant, PartMeant, ServedFrom}
 use Rattle.cnvm_cli.specs.Serve.{NewMeantTo, MemoryMeantTo, OpenMeantTo, MadeMeantTo, ServeMeant}
-use Rattle.cnvm_cli.specs.Serve.{Concludes, ServeFileMeant}
+use Rattle.cnvm_cli.specs.Serve.{Concludes, OpeningMeantTo, ServesOkFrom, LinesMeantTo}
+use Rattle.cnvm_cli.specs.Serve.{MovedMeantTo, ServeFileMeant}
 use Rattle.cnvm_cli.specs.World.{Sources, Outside}
 use Rattle.cnvm_cli.specs.inside.ServeEnds.{MemoryEnds, MadeServed, ServesOn, ServesNew, ServeEnds}
+use Rattle.cnvm_cli.specs.inside.ServeEnds.{ServesFrom, ServesMoved}
 use Rattle.cnvm_cli.proofs.Moments.{next_to, opened_to}
+use Rattle.cnvm_cli.proofs.MovedMeaning.{moves_meant}
 use Rattle.cnvm_cli.proofs.Sources.{known_bytes}
+use Rattle.cnvm_cli.proofs.Taking.{taken_map}
+use Rattle.cnvm_cli.proofs.Usable.{sizes_same}
 
 -- what follows of the lines that are answered follows at each end
 ends_map : {A B : List (List ℕ) → Type 0} {P Q : List (List ℕ) → List ℕ → Type 0}
@@ -200,49 +207,104 @@ module _ (program : Program) (agrees : Agrees program) where
         ),
       ))
 
-  takes_to : (left left' image : Option (List ℕ)) (shown : Option FileLines) (result : Status)
-      (before after : PoolSide)
-      → TakesFile (ServesOn left left' program result before after) program image shown result
-      before after
-      → TakesFile (λ words. Concludes (λ r w. OpenMeantTo r left left' program words before.out w
-      before.held.device after.held.device before.steps after.steps) result after) program image
-      shown result before after
-  takes_to left left' image shown result before after (inl refused) = inl refused
-  takes_to left left' image shown result before after (inr (inl silent)) = inr (inl silent)
-  takes_to left left' image shown result before after (inr (inr (words, gives, inl other))) =
-      inr (inr (words, gives, inl other))
-  takes_to left left' image shown result before after
-      (inr (inr (words, gives, inr (holds, (r, w, status, stands, ends))))) =
-      let given : ImageGives program image words = gives in
-      inr (inr (
-        words,
-        gives,
-        inr (
-          holds,
-          (
-            r,
-            w,
-            status,
-            stands,
-            open_to r left left' words before.out w before.held.device after.held.device
-                before.steps after.steps given.1 given.0 ends,
-          ),
-        ),
-      ))
+  served_to : (left left' : Option (List ℕ)) (words : List ℤ) → AreWords words
+      → IsOpened (wanted_of program) words → (result : Status) (before after : PoolSide)
+      → ServesOn left left' program result before after words
+      → Concludes (λ r w. OpenMeantTo r left left' program words before.out w before.held.device
+      after.held.device before.steps after.steps) result after
+  served_to left left' words are opened result before after (r, w, status, stands, ends) = (
+    r,
+    w,
+    status,
+    stands,
+    open_to r left left' words before.out w before.held.device after.held.device before.steps
+        after.steps are opened ends,
+  )
 
-  runs_to : (left left' image : Option (List ℕ)) (result : Status) (before after : PoolSide)
-      → RunsFile (ServesOn left left' program result before after)
-      (ServesNew left left' program result before after) program image result before after
-      → RunsFile (λ words. Concludes (λ r w. OpenMeantTo r left left' program words before.out w
-      before.held.device after.held.device before.steps after.steps) result after)
-      (λ b. Concludes (λ r w. MadeMeantTo r left left' program b before.out w after.held.device
-      before.steps after.steps) result after) program image result before after
-  runs_to left left' image result before after (inl busy) = inl busy
-  runs_to left left' image result before after (inr (inl silent)) = inr (inl silent)
-  runs_to left left' image result before after (inr (inr (inl (none, made)))) =
+  opening_to : (r : Result Served StartFault) (words : List ℤ) (w w' : Option (List ℕ))
+      (d d' : Device) (k k' : ℕ) → AreWords words → IsOpened (wanted_of program) words
+      → OpeningEnds r program words w w' d d' k k' → OpeningMeantTo r program words w w' d d' k k'
+  opening_to (Ok end) words w w' d d' k k' are opened (a, m, opens, first) =
+      let step = open_step opened_answers program words m d d' a k k' agrees are opened opens in
+      (a, opened_to program words a m d' k' step.0, step.1, first, refl, refl)
+  opening_to (Err why) words w w' d d' k k' are opened unopened = unopened
+
+  runs_to : (takes also : Option FileLines → Type 0)
+      → ((shown : Option FileLines) → takes shown → also shown) → (left left' : Option (List ℕ))
+      (result : Status) (before after : PoolSide)
+      → RunsFile takes (ServesNew left left' program result before after) program result before
+      after
+      → RunsFile also (λ b. Concludes (λ r w. MadeMeantTo r left left' program b before.out w
+      after.held.device before.steps after.steps) result after) program result before after
+  runs_to takes also so left left' result before after (inl busy) = inl busy
+  runs_to takes also so left left' result before after (inr (inl silent)) = inr (inl silent)
+  runs_to takes also so left left' result before after (inr (inr (inl (none, made)))) =
       inr (inr (inl (none, makes_to left left' result before after made)))
-  runs_to left left' image result before after (inr (inr (inr (shown, tells, taken)))) =
-      inr (inr (inr (shown, tells, takes_to left left' image shown result before after taken)))
+  runs_to takes also so left left' result before after (inr (inr (inr (shown, tells, taken)))) =
+      inr (inr (inr (shown, tells, so shown taken)))
+
+-- lines are answered from this moment on
+lines_to_meant : (r : Result Served StartFault) (left left' : Option (List ℕ)) (program : Program)
+    → Agrees program → (super : Words) (y : Moment) (told w : Option (List ℕ)) (after : PoolSide)
+    → Holds program super y.mode y.device y.state
+    → ServesFrom r left left' program y.mode y.device told y.steps after.held.device w after.steps
+    → ServesOkFrom r left left' program super y told w after
+lines_to_meant (Ok end) left left' program agrees super y told w after holds ends =
+    ends_map (all_to program super agrees y after.held.device told w after.steps holds)
+    (part_to program super agrees y after.held.device told w after.steps holds) end left left' ends
+lines_to_meant (Err why) left left' program agrees super y told w after holds ends = absurd ends
+
+-- a former pool is served
+module _ (former new : Program) (former_agrees : Agrees former) (agrees : Agrees new)
+    (sizes : first_other former.typed new.typed ≡ None → sizes_of new ≡ sizes_of former)
+    (left left' : Option (List ℕ)) where
+  served_on : (super : Words) (y : Moment) (result : Status) (told : Option (List ℕ))
+      (after : PoolSide) → Holds new super y.mode y.device y.state
+      → Concludes (λ r w. ServesFrom r left left' new y.mode y.device told y.steps
+      after.held.device w after.steps) result
+      after → LinesMeantTo left left' new super y result told after
+  served_on super y result told after holds (r, w, status, stands, ends) =
+      (r, w, status, stands, lines_to_meant r left left' new agrees super y told w after holds ends)
+
+  moved_to : (words : List ℤ) → AreWords words → IsOpened (wanted_of former) words
+      → (result : Status) (before after : PoolSide)
+      → ServesMoved left left' former new result before after words
+      → MovedMeantTo left left' former new words result before after
+  moved_to words are opened result before after (inl (r, w, status, stands, ends)) =
+      inl (
+        r,
+        w,
+        status,
+        stands,
+        opening_to former former_agrees r words before.out w before.held.device after.held.device
+            before.steps after.steps are opened ends,
+      )
+  moved_to words are opened result before after (inr (
+    m,
+    d,
+    k,
+    told,
+    (a, opens, wrote, awake),
+    moves,
+  )) =
+      let first = open_step opened_answers former words m before.held.device d a before.steps k
+      former_agrees are opened opens in
+      let x : Moment = opened_to former words a m d k first.0 in
+      inr (
+        a,
+        x,
+        told,
+        first.1,
+        wrote,
+        moves_meant former new (image_words words) x result told after sizes first.1.holds
+            (λ (b : Device). Concludes
+            (λ r w. ServesFrom r left left' new m b told k after.held.device w after.steps)
+            result after)
+            (λ super y. LinesMeantTo left left' new super y result told after)
+            (λ b holds served. served_on (moved_words new (image_words words)) (moved_moment b x)
+            result told after holds served)
+            moves,
+      )
 
 pub memory_served : (asked : Asked) (told : Sources) (result : Status) (before after : Outside)
     → MemoryEnds asked told result before.out after.out before.dev after.dev before.steps
@@ -261,14 +323,32 @@ memory_served asked told result before after (inr (compiled, is, r, w, status, n
           after.dev before.steps after.steps ends,
     )
 
-pub file_served : (asked : Asked) (told : Sources) (result : Status) (before after : PoolSide)
-    → ServeEnds asked told result before after → ServeFileMeant asked told result before after
-file_served asked told result before after (inl refused) = inl refused
-file_served asked told result before after (inr (compiled, is, ran)) =
+pub file_served : (asked : Asked) (moves : Bool) (told : Sources) (result : Status)
+    (before after : PoolSide) → ServeEnds asked moves told result before after
+    → ServeFileMeant asked moves told result before after
+file_served asked moves told result before after (inl refused) = inl refused
+file_served asked moves told result before after (inr (compiled, is, ran)) =
     let from = known_bytes told.program (λ text. IsCompiled asked text compiled) is in
+    let agrees = from.1.agrees in
     inr (
       compiled,
       is,
-      runs_to compiled.program from.1.agrees told.script told.rest told.image result before after
-          ran,
+      runs_to compiled.program agrees _ _
+          (λ shown. taken_map result before after asked told.former compiled.program told.image
+          (ServesOn told.script told.rest compiled.program result before after)
+          (λ words. Concludes (λ r w. OpenMeantTo r told.script told.rest compiled.program words
+          before.out w before.held.device after.held.device before.steps after.steps) result after)
+          (λ old. ServesMoved told.script told.rest old.program compiled.program result before
+          after)
+          (λ old words. MovedMeantTo told.script told.rest old.program compiled.program words result
+          before after)
+          (λ words are opened ran. served_to compiled.program agrees told.script told.rest words are
+          opened result before after ran)
+          (λ old former words are opened ran.
+          let text = known_bytes told.former (λ t. IsCompiled asked t old) former in
+          moved_to old.program compiled.program text.1.agrees agrees
+          (sizes_same asked old compiled text from) told.script told.rest words are opened result
+          before after ran)
+          moves shown)
+          told.script told.rest result before after ran,
     )

@@ -60,7 +60,7 @@ take_all (suc n) (x ∷ xs) within =
     ap (λ (l : List ℕ). x ∷ l) (take_all n xs (omega (arith, within)))
 
 -- what holds of the first bytes of a source
-of_part : (n : ℕ) (w : Option (List ℕ)) (P : List ℕ → Type 0) (bytes : List ℕ)
+pub of_part : (n : ℕ) (w : Option (List ℕ)) (P : List ℕ → Type 0) (bytes : List ℕ)
     → IfSome w (λ all. bytes ≡ take n all) → length bytes ≤ n → P bytes
     → OfBytes w (λ all. P (take n all))
 of_part n None P bytes first within is = (bytes, subst P (sym (take_all n bytes within)) is)

@@ -56,10 +56,10 @@ IsRunServed asked told opens =
 abbrev pub IsPlanServed : Plan → Sources → Type 0
 IsPlanServed (plan.Run p s slots records ticks from save) told =
     IsRunServed (asked_by slots records ticks) told (is_some from)
-IsPlanServed (plan.RunPool p s slots records ticks pool) told = ⊥
+IsPlanServed (plan.RunPool p s slots records ticks pool former) told = ⊥
 IsPlanServed (plan.Serve p slots records ticks) told =
     HasProgram (asked_by slots records ticks) told.program × HasLines told.script
-IsPlanServed (plan.ServePool p slots records ticks pool) told = ⊥
+IsPlanServed (plan.ServePool p slots records ticks pool former) told = ⊥
 IsPlanServed (plan.List p) told = HasProgram listing_sizes told.program
 IsPlanServed (plan.Storm p start count slots records ticks) told =
     HasProgram (asked_by slots records ticks) told.program

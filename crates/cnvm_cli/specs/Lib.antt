@@ -1,6 +1,7 @@
 pub mod CodeEnds
 pub mod Complete
 pub mod Emitted
+pub mod Former
 pub mod Listed
 pub mod Meant
 pub mod Opened

@@ -175,12 +175,12 @@ RunMeant asked told opens saves result before after =
 abbrev pub PlanMeant : Plan → Sources → Status → (before after : Outside) → Type 0
 PlanMeant (plan.Run p s slots records ticks from save) told result before after =
     RunMeant (asked_by slots records ticks) told (is_some from) (is_some save) result before after
-PlanMeant (plan.RunPool p s slots records ticks pool) told result before after =
+PlanMeant (plan.RunPool p s slots records ticks pool former) told result before after =
     Keeps before.image after.image × (after.dev ≡ before.dev)
 PlanMeant (plan.Serve p slots records ticks) told result before after =
     ServeMeant (asked_by slots records ticks) told result before after
     × Keeps before.image after.image
-PlanMeant (plan.ServePool p slots records ticks pool) told result before after =
+PlanMeant (plan.ServePool p slots records ticks pool former) told result before after =
     Keeps before.image after.image × (after.dev ≡ before.dev)
 PlanMeant (plan.List p) told result before after =
     ListEnds told.program result before.out after.out × IsUntouched before after

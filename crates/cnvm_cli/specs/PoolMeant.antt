@@ -1,6 +1,7 @@
 -- What a run on the pool of a file means. The pool's lines lie in a device that is mirrored in the
 -- file: whatever a killed process or a loss of power leaves of the file is an image of the device.
-use Rattle.std.specs.Prelude.{ℕ, ℤ, ◌≡◌, ◌≢◌, ◌⊎◌, List, ◌++◌, Option, Some, None, ⊤}
+use Rattle.std.specs.Prelude.{ℕ, ℤ, ◌≡◌, ◌≢◌, ◌⊎◌, List, [], ◌++◌, Option, Some, None, ⊤}
+use Rattle.std.specs.Prelude.{Bool, is_some}
 use Rattle.std.specs.Io.KnownBytes.{Appends}
 use Rattle.cache_model.specs.Cache.{Words}
 use Rattle.pmem.specs.Device.{Device}
@@ -21,6 +22,7 @@ use Rattle.session_run.specs.Held.{FirstTold}
 use Rattle.cnvm_compile.specs.declared.asked.Asked.{Asked}
 use Rattle.cnvm_compile.specs.declared.compiling.Compiled.{Compiled}
 use Rattle.cnvm_cli.specs.declared.refused.Refused.{Refused}
+use Rattle.cnvm_cli.specs.Former.{MovesOn, TakesIf}
 use Rattle.cnvm_cli.specs.Meant.{RanAll, RanPart, OpenedMeantAs}
 use Rattle.cnvm_cli.specs.PoolSide.{PoolSide, IsKept, IsUnrun, RunsFile}
 use Rattle.cnvm_cli.specs.Run.{RefusedAs}
@@ -51,6 +53,35 @@ HeldMeant program commands words result before after =
     × Appends before.out w (answer_text a)
     × RanSome program (image_words words) commands x w after.out after.held.device after.steps)))
 
+-- The commands are answered from this moment on: all of them, or a part, or some until the file
+-- refused something. After status 0 the file mirrors the device.
+abbrev pub AnsweredMeant : Program → Words → List Command → Moment → Status
+    → (told : Option (List ℕ)) → (after : PoolSide) → Type 0
+AnsweredMeant program super commands x status.Done told after =
+    RanAll program super commands x told after.out after.held.device after.steps
+    × (after.held.state ≡ Awake)
+AnsweredMeant program super commands x status.NoMemory told after =
+    RanPart program super commands x told after.out after.held.device after.steps
+AnsweredMeant program super commands x status.WriteFault told after =
+    RanPart program super commands x told after.out after.held.device after.steps
+AnsweredMeant program super commands x status.DeviceFault told after =
+    RanSome program super commands x told after.out after.held.device after.steps
+    × (after.held.state ≢ Awake)
+AnsweredMeant program super commands x _ told after = ⊥
+
+-- A run on a file with these words, which is a pool of the former program: it ends as a run of that
+-- program without commands, whose opening ended early; or the opening is answered, and the pool is
+-- moved, or isn't.
+abbrev pub MovedMeant : (former new : Program) → List Command → List ℤ → Status
+    → (before after : PoolSide) → Type 0
+MovedMeant former new commands words result before after =
+    ((result ≢ status.Done) × HeldMeant former [] words result before after)
+    ⊎ ((a : Answer) × (x : Moment) × (told : Option (List ℕ))
+    × OpenStep former words before.held.device before.steps a x
+    × Appends before.out told (answer_text a)
+    × MovesOn (λ super y. AnsweredMeant new super commands y result told after) former new
+    (image_words words) x result told after)
+
 -- A run on a new pool whose file was made: it holds the empty pool, `created` is written, and then
 -- the commands are answered.
 abbrev pub NewMeant : Program → List Command → Status → Device → (before after : PoolSide) → Type 0
@@ -67,28 +98,32 @@ NewMeant program commands result b before after =
 
 -- What a run on the pool of a file means: a text is refused, and this is reported; or the source of
 -- the compiled program says what each answer is.
-abbrev pub FileMeant : Asked → Sources → Status → (before after : PoolSide) → Type 0
-FileMeant asked told result before after =
+abbrev pub FileMeant : Asked → (moves : Bool) → Sources → Status → (before after : PoolSide)
+    → Type 0
+FileMeant asked moves told result before after =
     ((why : Refused) × TextsRefuse asked told.program told.script why
     × RefusedAs why result before.out after.out × IsUnrun before after)
     ⊎ ((compiled : Compiled) × (commands : List Command)
     × TextsGive asked told.program told.script compiled commands
-    × RunsFile (λ words. HeldMeant compiled.program commands words result before after)
-    (λ b. NewMeant compiled.program commands result b before after)
+    × RunsFile (TakesIf moves asked told.former
+    (λ words. HeldMeant compiled.program commands words result before after)
+    (λ old words. MovedMeant old.program compiled.program commands words result before after)
     compiled.program told.image result before after)
+    (λ b. NewMeant compiled.program commands result b before after)
+    compiled.program result before after)
 
 -- the plan runs on a pool's file
 abbrev pub HasPool : Option Plan → Type 0
-HasPool (Some (plan.RunPool p s slots records ticks pool)) = ⊤
-HasPool (Some (plan.ServePool p slots records ticks pool)) = ⊤
+HasPool (Some (plan.RunPool p s slots records ticks pool former)) = ⊤
+HasPool (Some (plan.ServePool p slots records ticks pool former)) = ⊤
 HasPool _ = ⊥
 
 -- A call by its plan: one that names no pool's file leaves the device over it as it was.
 abbrev pub PlanOnFile : Option Plan → Sources → Status → (before after : PoolSide) → Type 0
-PlanOnFile (Some (plan.RunPool p s slots records ticks pool)) told result before after =
-    FileMeant (asked_by slots records ticks) told result before after
-PlanOnFile (Some (plan.ServePool p slots records ticks pool)) told result before after =
-    ServeFileMeant (asked_by slots records ticks) told result before after
+PlanOnFile (Some (plan.RunPool p s slots records ticks pool former)) told result before after =
+    FileMeant (asked_by slots records ticks) (is_some former) told result before after
+PlanOnFile (Some (plan.ServePool p slots records ticks pool former)) told result before after =
+    ServeFileMeant (asked_by slots records ticks) (is_some former) told result before after
 PlanOnFile _ told result before after =
     (after.held ≡ before.held) × (after.found ≡ before.found)
 

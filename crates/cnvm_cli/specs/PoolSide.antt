@@ -90,26 +90,33 @@ RefusesFile why result before after =
     RefusedAs why result before.out after.out × (after.held ≡ before.held)
     × (after.steps ≡ before.steps)
 
+-- A file that shows this holds other words than these, as one of the first version does, whose
+-- words are moved; or these are run on.
+abbrev pub RunsWords : (run : List ℤ → Type 0) → Program → List ℤ → (shown : Option FileLines)
+    → Status → (before after : PoolSide) → Type 0
+RunsWords run program words shown result before after =
+    ((other : List ℤ) × (other ≢ words)
+    × HoldsNewest shown (pool_lines (sizes_of program)) other
+    × RefusesFile (refused.Image (Version (slice_index_or other 1 (pos 0)) (pos 2))) result before
+    after)
+    ⊎ (HoldsNewest shown (pool_lines (sizes_of program)) words × run words)
+
 -- A file is held that shows this. It is refused as an image is; or it holds other words than the
--- image gives, as one of the first version does, whose words are moved; or it is run on.
+-- image gives; or it is run on.
 abbrev pub TakesFile : (run : List ℤ → Type 0) → Program → (image : Option (List ℕ))
     → (shown : Option FileLines) → Status → (before after : PoolSide) → Type 0
 TakesFile run program image shown result before after =
     ((why : Refused) × ImageRefuses program image why × RefusesFile why result before after)
     ⊎ (IsSilent result before after
     ⊎ ((words : List ℤ) × ImageGives program image words
-    × (((other : List ℤ) × (other ≢ words)
-    × HoldsNewest shown (pool_lines (sizes_of program)) other
-    × RefusesFile (refused.Image (Version (slice_index_or other 1 (pos 0)) (pos 2))) result before
-    after)
-    ⊎ (HoldsNewest shown (pool_lines (sizes_of program)) words × run words))))
+    × RunsWords run program words shown result before after))
 
--- What is run, by where the name of the pool's file leads.
-abbrev pub RunsFile : (run : List ℤ → Type 0) → (new : Device → Type 0) → Program
-    → (image : Option (List ℕ)) → Status → (before after : PoolSide) → Type 0
-RunsFile run new program image result before after =
+-- What is run, by where the name of the pool's file leads: `takes` says how a file is taken.
+abbrev pub RunsFile : (takes : Option FileLines → Type 0) → (new : Device → Type 0) → Program
+    → Status → (before after : PoolSide) → Type 0
+RunsFile takes new program result before after =
     (Tells before.found Taken × RefusesFile refused.Busy result before after)
     ⊎ (IsSilent result before after
     ⊎ ((Tells before.found Nothing × MakesPool new program result before after)
     ⊎ ((shown : Option FileLines) × TellsFile before.found shown
-    × TakesFile run program image shown result before after)))
+    × takes shown)))

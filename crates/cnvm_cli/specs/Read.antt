@@ -8,10 +8,10 @@ use Rattle.cnvm_words.specs.declared.plan.Plan.TheVariants as plan
 abbrev pub IsRead : Plan → (program script : Option (List ℕ)) → Type 0
 IsRead (plan.Run p s slots records ticks from save) program script =
     IsAtEnd program × IsAtEnd script
-IsRead (plan.RunPool p s slots records ticks pool) program script =
+IsRead (plan.RunPool p s slots records ticks pool former) program script =
     IsAtEnd program × IsAtEnd script
 IsRead (plan.Serve p slots records ticks) program script = IsAtEnd program × IsAtEnd script
-IsRead (plan.ServePool p slots records ticks pool) program script =
+IsRead (plan.ServePool p slots records ticks pool former) program script =
     IsAtEnd program × IsAtEnd script
 IsRead (plan.List p) program script = IsAtEnd program
 IsRead (plan.Storm p start count slots records ticks) program script = IsAtEnd program

@@ -2,7 +2,7 @@
 -- its answer is written whole before the next read: so, whenever a read is made, all that was read
 -- and ends a line is answered, and a pool's file mirrors the device.
 use Rattle.std.specs.Prelude.{ℕ, ℤ, List, [], ◌∷◌, Option, Some, None, Result, Ok, Err, ◌≡◌, ◌≢◌}
-use Rattle.std.specs.Prelude.{◌⊎◌, ⊤, codes}
+use Rattle.std.specs.Prelude.{◌⊎◌, ⊤, Bool, codes}
 use Rattle.std.specs.Io.KnownBytes.{Appends}
 use Rattle.nvm_base.specs.Parts.{AppendsPart}
 use Rattle.cache_model.specs.Cache.{Words}
@@ -26,12 +26,14 @@ use Rattle.session_run.specs.declared.status.Status.TheVariants as status
 use Rattle.session_run.specs.Made.{Created, Uncreated, Unopened}
 use Rattle.session_serve.specs.declared.serving.Served.{Served}
 use Rattle.session_serve.specs.declared.serving.Served.TheVariants as served
-use Rattle.session_serve.specs.Begins.{EndsAfter, created_text, ended_text}
+use Rattle.session_serve.specs.Begins.{EndsFirst, EndsAfter, created_text, ended_text}
+use Rattle.session_serve.specs.Serves.{ServingEnds}
 use Rattle.cnvm_compile.specs.declared.asked.Asked.{Asked}
 use Rattle.cnvm_compile.specs.declared.compiling.Compiled.{Compiled}
 use Rattle.cnvm_compile.specs.Compilation.{IsCompiled}
 use Rattle.cnvm_cli.specs.declared.refused.Refused.{Refused}
 use Rattle.cnvm_cli.specs.declared.refused.Refused.TheVariants as refused
+use Rattle.cnvm_cli.specs.Former.{MovesOn, TakesIf}
 use Rattle.cnvm_cli.specs.PoolSide.{PoolSide, IsUnrun, RunsFile}
 use Rattle.cnvm_cli.specs.Run.{RefusedAs}
 use Rattle.cnvm_cli.specs.Verdict.{OfBytes, ProgramRefuses}
@@ -148,6 +150,14 @@ Concludes ends result after =
     (r : Result Served StartFault) × (w : Option (List ℕ)) × StatusOf r result w after.out
     × StandsAt r after.held.state × ends r w
 
+-- lines are answered from this moment on, without a first answer
+abbrev pub ServesOkFrom : Result Served StartFault → (left left' : Option (List ℕ)) → Program
+    → Words → Moment → (told w' : Option (List ℕ)) → (after : PoolSide) → Type 0
+ServesOkFrom (Ok end) left left' program super x told w' after =
+    ServingEnds end left left' (AllMeant program super x after.held.device w' after.steps told)
+    (PartMeant program super x after.held.device w' after.steps told)
+ServesOkFrom (Err why) left left' program super x told w' after = ⊥
+
 -- a new pool whose file was made
 abbrev pub MadeMeantTo : Result Served StartFault → (left left' : Option (List ℕ)) → Program
     → Device → (w w' : Option (List ℕ)) → Device → (k k' : ℕ) → Type 0
@@ -155,15 +165,47 @@ MadeMeantTo (Ok end) left left' program b w w' d' k k' =
     NewMeantTo end left left' program b w w' d' k k'
 MadeMeantTo (Err why) left left' program b w w' d' k k' = ⊥
 
+-- lines are answered from this moment on
+abbrev pub LinesMeantTo : (left left' : Option (List ℕ)) → Program → Words → Moment → Status
+    → (told : Option (List ℕ)) → (after : PoolSide) → Type 0
+LinesMeantTo left left' program super x result told after =
+    Concludes (λ r w. ServesOkFrom r left left' program super x told w after) result after
+
+-- serving ends at the opening of the pool of these words
+abbrev pub OpeningMeantTo : Result Served StartFault → Program → List ℤ → (w w' : Option (List ℕ))
+    → (d d' : Device) → (k k' : ℕ) → Type 0
+OpeningMeantTo (Ok end) program words w w' d d' k k' =
+    (a : Answer) × (x : Moment) × OpenStep program words d k a x × EndsFirst end (ended_text a) w w'
+    × (d' ≡ x.device) × (k' ≡ x.steps)
+OpeningMeantTo (Err why) program words w w' d d' k k' = Unopened program words why w w' d d' k k'
+
+-- A pool of the former program is served: serving ends at its opening; or the opening is answered,
+-- and the pool is moved, or isn't.
+abbrev pub MovedMeantTo : (left left' : Option (List ℕ)) → (former new : Program) → List ℤ → Status
+    → (before after : PoolSide) → Type 0
+MovedMeantTo left left' former new words result before after =
+    Concludes (λ r w. OpeningMeantTo r former words before.out w before.held.device
+    after.held.device before.steps after.steps) result after
+    ⊎ ((a : Answer) × (x : Moment) × (told : Option (List ℕ))
+    × OpenStep former words before.held.device before.steps a x
+    × Appends before.out told (ended_text a)
+    × MovesOn (λ super y. LinesMeantTo left left' new super y result told after) former new
+    (image_words words) x result told after)
+
 -- What serving the pool of a file means: the program is refused, and this is reported; or lines are
 -- served on the pool, which is taken from the file or made as for a run.
-abbrev pub ServeFileMeant : Asked → Sources → Status → (before after : PoolSide) → Type 0
-ServeFileMeant asked told result before after =
+abbrev pub ServeFileMeant : Asked → (moves : Bool) → Sources → Status → (before after : PoolSide)
+    → Type 0
+ServeFileMeant asked moves told result before after =
     ((why : Refused) × ProgramRefuses told.program why
     × RefusedAs why result before.out after.out × IsUnrun before after)
     ⊎ ((compiled : Compiled) × OfBytes told.program (λ text. IsCompiled asked text compiled)
-    × RunsFile (λ words. Concludes (λ r w. OpenMeantTo r told.script told.rest compiled.program
+    × RunsFile (TakesIf moves asked told.former
+    (λ words. Concludes (λ r w. OpenMeantTo r told.script told.rest compiled.program
     words before.out w before.held.device after.held.device before.steps after.steps) result after)
+    (λ old words. MovedMeantTo told.script told.rest old.program compiled.program words result
+    before after)
+    compiled.program told.image result before after)
     (λ b. Concludes (λ r w. MadeMeantTo r told.script told.rest compiled.program b before.out w
     after.held.device before.steps after.steps) result after)
-    compiled.program told.image result before after)
+    compiled.program result before after)

@@ -14,6 +14,7 @@ plan_in given = words.plan_of (map string_bytes given)
 -- what the sources tell of their bytes, and what the script's has left after the call
 pub record Sources : Type 0 where
   pub program : Option (List ℕ)
+  pub former : Option (List ℕ)
   pub script : Option (List ℕ)
   pub image : Option (List ℕ)
   pub rest : Option (List ℕ)
@@ -32,6 +33,7 @@ abbrev pub told_by : {S T I K O P : Type 0} → (S → Option (List ℕ)) → (T
     → (I → Option (List ℕ)) → (old new : World S T I K O P) → Sources
 told_by program script image old new = record {
   program = program old.program;
+  former = program old.former;
   script = script old.script;
   image = image old.image_in;
   rest = script new.script;

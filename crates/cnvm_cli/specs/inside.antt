@@ -1,5 +1,6 @@
 -- What only bodies and proofs need: no public clause rests on it.
 pub mod Ends
+pub mod FormerEnds
 pub mod Opened
 pub mod PoolEnds
 pub mod ServeEnds

@@ -5,6 +5,7 @@
 //! the words, the program, the script and the image call for.
 #![tactic(auto)]
 
+mod former;
 mod instructions;
 mod native;
 mod pool;

@@ -6,7 +6,8 @@ use cnvm_compile::{Compiled, line_at};
 use cnvm_session::{Trapped, Traps};
 use std::alloc::Global;
 
-/// Looks up the lines of the traps. One for which there is no memory isn't told.
+/// Looks up the lines of the traps that this program's code has answered since the last time. One
+/// for which there is no memory isn't told.
 pub(crate) fn look_up(alloc: Global, compiled: &Compiled, traps: &mut Traps)
     requires { IsWellFormed compiled.now.ir }
 {
@@ -23,7 +24,11 @@ fn with_line(alloc: Global, compiled: &Compiled, trapped: Option<Trapped>) -> Op
             Ok(line) => line,
             Err(_) => None,
         },
-        None => None,
+        None => trapped.line,
     };
-    Some(Trapped { line, ..trapped })
+    Some(Trapped {
+        line,
+        stop: None,
+        ..trapped
+    })
 }

@@ -1,5 +1,5 @@
 -- How the program ends. Files and standard output tell no bytes, so the clause of the top call
--- holds of some bytes of the program, the script and the image.
+-- holds of some bytes of the program, its former text, the script and the image.
 use Rattle.std.specs.Prelude.{ℕ, List, None, ◌≡◌}
 use Rattle.cache_model.specs.Cache.{blank}
 use Rattle.pmem.specs.Device.{Device}
@@ -11,7 +11,8 @@ use Rattle.session_run.specs.StatusNumber.{status_number}
 use Rattle.cnvm_cli.specs.World.{Sources, seen}
 
 abbrev pub no_sources : Sources
-no_sources = record { program = None; script = None; image = None; rest = None }
+no_sources =
+    record { program = None; former = None; script = None; image = None; rest = None }
 
 -- a new device in memory: it has no lines and shows its armed fault, of which there is none
 abbrev pub new_device : Device

@@ -62,6 +62,7 @@ struct Paths {
     script: Text,
     image_in: Text,
     image_out: Text,
+    former: Text,
 }
 
 /// The paths that the words name. `None` if there was no memory.
@@ -92,11 +93,13 @@ fn paths_in(alloc: Global, plan: Plan) -> Paths
             script: script_path,
             image_in: given_or_empty(alloc, start_image),
             image_out: given_or_empty(alloc, end_image),
+            former: Text::new(alloc),
         },
         Plan::RunPool {
             program_path,
             script_path,
             pool_path,
+            former_path,
             ..
         } => Paths {
             program: program_path,
@@ -104,13 +107,17 @@ fn paths_in(alloc: Global, plan: Plan) -> Paths
             script: script_path,
             image_in: pool_path,
             image_out: Text::new(alloc),
+            former: given_or_empty(alloc, former_path),
         },
-        Plan::Serve { program_path, .. } => served_paths(alloc, program_path, Text::new(alloc)),
+        Plan::Serve { program_path, .. } => {
+            served_paths(alloc, program_path, Text::new(alloc), None)
+        }
         Plan::ServePool {
             program_path,
             pool_path,
+            former_path,
             ..
-        } => served_paths(alloc, program_path, pool_path),
+        } => served_paths(alloc, program_path, pool_path, former_path),
         Plan::List { program_path } => program_alone(alloc, program_path),
         Plan::Storm { program_path, .. } => program_alone(alloc, program_path),
         Plan::Why { program_path } => program_alone(alloc, program_path),
@@ -124,6 +131,7 @@ fn paths_in(alloc: Global, plan: Plan) -> Paths
             script: script_path,
             image_in: Text::new(alloc),
             image_out: Text::new(alloc),
+            former: Text::new(alloc),
         },
         Plan::Emit { program_path, .. } => program_alone(alloc, program_path),
         Plan::Code { program_path } => program_alone(alloc, program_path),
@@ -140,12 +148,13 @@ fn program_alone(alloc: Global, program: Text) -> Paths
         script: Text::new(alloc),
         image_in: Text::new(alloc),
         image_out: Text::new(alloc),
+        former: Text::new(alloc),
     }
 }
 
 /// Lines that come are answered on the pool of this path, or in memory.
-fn served_paths(alloc: Global, program: Text, pool: Text) -> Paths
-    ensures { result ≡ served_paths program pool }
+fn served_paths(alloc: Global, program: Text, pool: Text, former: Option<Text>) -> Paths
+    ensures { result ≡ served_paths program pool former }
 {
     Paths {
         program,
@@ -153,6 +162,7 @@ fn served_paths(alloc: Global, program: Text, pool: Text) -> Paths
         script: Text::new(alloc),
         image_in: pool,
         image_out: Text::new(alloc),
+        former: given_or_empty(alloc, former),
     }
 }
 
@@ -212,6 +222,7 @@ fn world_on<'a, R: Files + Input + Print + Eprint + AllocGlobal, P>(
 where
     R::Reader: IsTerminal,
     ensures program { path_of_source (source_below result.program) ≡ paths.now.program }
+    ensures former { path_of_source (source_below result.former) ≡ paths.now.former }
     ensures script { path_of_script result.script ≡ paths.now.script }
     ensures image_in { path_of_source (source_below result.image_in) ≡ paths.now.image_in }
     ensures out { path_of_sink result.out.sink ≡ None }
@@ -225,6 +236,7 @@ where
     };
     World {
         program: KeptSource::new(alloc, StdSource::new(rt, paths.program.as_str())),
+        former: KeptSource::new(alloc, StdSource::new(rt, paths.former.as_str())),
         script: ScriptSource::new(alloc, rt, paths.script.as_str(), paths.origin, most),
         image_in: KeptSource::new(alloc, StdSource::new(rt, paths.image_in.as_str())),
         out: AnswerSink::new(alloc, StdSink::standard(rt), most),
@@ -285,5 +297,6 @@ fn names_of(paths: &Paths) -> Named<'_> {
         },
         image_in: paths.image_in.as_str(),
         image_out: paths.image_out.as_str(),
+        former: paths.former.as_str(),
     }
 }

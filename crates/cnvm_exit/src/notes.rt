@@ -38,6 +38,7 @@ pub(crate) struct Named<'a> {
     pub script: &'a str,
     pub image_in: &'a str,
     pub image_out: &'a str,
+    pub former: &'a str,
 }
 
 /// Tells how a run ended; `pool` is why a pool's file couldn't be opened or made. Where there is no
@@ -79,7 +80,7 @@ fn message<R: Files + Input + Print + AllocGlobal, P: Drop>(
         Status::Done => of_done(alloc, words, named, world),
         Status::NoMemory => plain(alloc, "out of memory"),
         Status::Usage => Ok(Some(of_words(alloc, words)?)),
-        Status::Program => of_program(alloc, named.program, world.program.kept()),
+        Status::Program => of_programs(alloc, named, world),
         Status::Script => of_script(alloc, words, named.script, world.script.kept()),
         Status::ReadFault => Ok(Some(of_read(alloc, named, world, pool)?)),
         Status::WriteFault => Ok(Some(of_write(alloc, named, world)?)),
@@ -124,17 +125,29 @@ fn plain(alloc: Global, what: &str) -> Result<Option<String>, AllocError> {
     Ok(Some(message_of(alloc, &told)?))
 }
 
-/// The message of a refused program.
+/// The message of a refused program, or of its former text.
+fn of_programs<R: Files + Input + Print + AllocGlobal, P: Drop>(
+    alloc: Global,
+    named: Named<'_>,
+    world: &FileWorld<'_, R, P>,
+) -> Result<Option<String>, AllocError> {
+    let note = match of_program(alloc, named.program, world.program.kept())? {
+        Some(note) => Some(note),
+        None => of_program(alloc, named.former, world.former.kept())?,
+    };
+    note_or(alloc, note, "the program was refused")
+}
+
+/// The message of a text, if it is refused.
 fn of_program(
     alloc: Global,
     path: &str,
     text: Option<&[u8]>,
 ) -> Result<Option<String>, AllocError> {
-    let note = match text {
-        Some(text) => program_note(alloc, path, text)?,
-        None => None,
-    };
-    note_or(alloc, note, "the program was refused")
+    match text {
+        Some(text) => program_note(alloc, path, text),
+        None => Ok(None),
+    }
 }
 
 /// The message of a refused script, by the grammar of the command.
@@ -305,7 +318,10 @@ fn of_read<R: Files + Input + Print + AllocGlobal, P: Drop>(
 ) -> Result<String, AllocError> {
     let program = world.program.source().reason();
     let script = world.script.reason();
-    let told = if program.is_some() {
+    let former = world.former.source().reason();
+    let told = if former.is_some() {
+        unread(alloc, named.former, former)?
+    } else if program.is_some() {
         unread(alloc, named.program, program)?
     } else if script.is_some() {
         unread(alloc, named.script, script)?
@@ -346,6 +362,13 @@ fn of_refused_image<R: Files + Input + Print + AllocGlobal, P: Drop>(
         return plain(alloc, "the image was refused");
     };
     let line = String::from_utf8_lossy(alloc, line)?;
+    if let Some(name) = other_struct(line.as_str()) {
+        let what = format!(in alloc;
+            "{}: struct {name} isn't the same in {} as in {}; the pool is as before",
+            named.image_in, named.program, named.former
+        )?;
+        return plain(alloc, what.as_str());
+    }
     let refusal = refusal_of(alloc, words, line.as_str(), image);
     let is_image = image.starts_with(b"CNVMPOOL");
     let found = image_digest(alloc, image)?;
@@ -356,6 +379,17 @@ fn of_refused_image<R: Files + Input + Print + AllocGlobal, P: Drop>(
     };
     let told = of_image(alloc, named.image_in, refusal, is_image, digests)?;
     Ok(Some(message_of(alloc, &told)?))
+}
+
+/// The struct that the last line names, if that is `image shape NAME`.
+fn other_struct(answers: &str) -> Option<&str> {
+    let mut found = None;
+    let mut is_next = false;
+    for word in answers.split_whitespace() {
+        found = if is_next { Some(word) } else { None };
+        is_next = word == "shape";
+    }
+    found
 }
 
 /// The refusal that a line `image KIND A B` tells.

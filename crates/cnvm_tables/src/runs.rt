@@ -71,6 +71,7 @@ pub(crate) fn run<P: Pmem + Drop, L: Ledger>(
     push_words(alloc, &mut words, more)?;
     let mut world = World {
         program: MemSource::new(alloc, program.as_bytes(), 1, &[fails.program])?,
+        former: MemSource::new(alloc, b"", 1, &[])?,
         script: MemSource::new(alloc, script.as_bytes(), 1, &[fails.script])?,
         image_in: MemSource::new(alloc, image, 1, &[fails.image_in])?,
         out: ByteSink::new(alloc, fails.out),

@@ -20,10 +20,14 @@ abbrev pub sized : App → App
 sized app = with_rule (with_rule (with_rule app (option_rule (codes "slots")))
     (option_rule (codes "log"))) (option_rule (codes "ticks"))
 
+-- a command with the options for a pool's own file, and for the former text of its program
+abbrev pub pooled : App → App
+pooled app = with_rule (with_rule app (option_rule (codes "pool"))) (option_rule (codes "from"))
+
 -- a command with the options for the files of a pool
 abbrev pub filed : App → App
-filed app = with_rule (with_rule (with_rule app (option_rule (codes "open")))
-    (option_rule (codes "save"))) (option_rule (codes "pool"))
+filed app =
+    pooled (with_rule (with_rule app (option_rule (codes "open"))) (option_rule (codes "save")))
 
 abbrev pub run_app : App
 run_app =
@@ -56,9 +60,7 @@ workers_app =
 
 abbrev pub serve_app : App
 serve_app =
-    sized
-    (with_rule (with_rule (new_app (codes "serve")) (place_rule (codes "program")))
-    (option_rule (codes "pool")))
+    sized (pooled (with_rule (new_app (codes "serve")) (place_rule (codes "program"))))
 
 abbrev pub emit_app : App
 emit_app =

@@ -35,20 +35,21 @@ asked_pool rows =
     (number_or 256 1 4096 (first_of (codes "log") rows)))
     (number_or 1024 1 65535 (first_of (codes "slots") rows))
 
--- a pool's file isn't named together with an image
+-- a pool's file isn't named together with an image, and a former text only with a pool's file
 abbrev pub run_on : (program script : List ℕ) → (slots records ticks : ℕ)
-    → (opened saved pool : Option (List ℕ)) → Option Plan
-run_on program script slots records ticks opened saved None =
+    → (opened saved pool former : Option (List ℕ)) → Option Plan
+run_on program script slots records ticks opened saved None None =
     Some (Run program script slots records ticks opened saved)
-run_on program script slots records ticks None None (Some pool) =
-    Some (RunPool program script slots records ticks pool)
-run_on program script slots records ticks _ _ (Some pool) = None
+run_on program script slots records ticks opened saved None (Some former) = None
+run_on program script slots records ticks None None (Some pool) former =
+    Some (RunPool program script slots records ticks pool former)
+run_on program script slots records ticks _ _ (Some pool) former = None
 
 abbrev pub run_plan : List Row → Option Plan
 run_plan rows =
     option_and_then (λ program. option_and_then (λ script. option_and_then (λ sizes.
     run_on program script sizes.0 sizes.1 sizes.2 (first_of (codes "open") rows)
-    (first_of (codes "save") rows) (first_of (codes "pool") rows))
+    (first_of (codes "save") rows) (first_of (codes "pool") rows) (first_of (codes "from") rows))
     (asked_pool rows))
     (first_of (codes "script") rows))
     (first_of (codes "program") rows)
@@ -79,15 +80,18 @@ workers_plan rows =
     (first_of (codes "program") rows)
 
 -- a pool's file is named, or the pool is in memory
-abbrev pub serve_on : (program : List ℕ) → (slots records ticks : ℕ) → (pool : Option (List ℕ))
-    → Plan
-serve_on program slots records ticks None = Serve program slots records ticks
-serve_on program slots records ticks (Some pool) = ServePool program slots records ticks pool
+abbrev pub serve_on : (program : List ℕ) → (slots records ticks : ℕ)
+    → (pool former : Option (List ℕ)) → Option Plan
+serve_on program slots records ticks None None = Some (Serve program slots records ticks)
+serve_on program slots records ticks None (Some former) = None
+serve_on program slots records ticks (Some pool) former =
+    Some (ServePool program slots records ticks pool former)
 
 abbrev pub serve_plan : List Row → Option Plan
 serve_plan rows =
-    option_and_then (λ program. option_map (λ sizes.
-    serve_on program sizes.0 sizes.1 sizes.2 (first_of (codes "pool") rows))
+    option_and_then (λ program. option_and_then (λ sizes.
+    serve_on program sizes.0 sizes.1 sizes.2 (first_of (codes "pool") rows)
+    (first_of (codes "from") rows))
     (asked_pool rows))
     (first_of (codes "program") rows)
 

@@ -4,7 +4,8 @@
 ghost use Rattle.std.specs.Prelude.{◌≡◌, false, IfOk};
 ghost use Rattle.clap.specs.declared.builder.command.Command.TheViews.{out-Command as fields_of};
 ghost use Rattle.clap.specs.Words.{app_of, rule_of};
-ghost use Rattle.cnvm_words.specs.App.{option_rule, flag_rule, place_rule, bare_app, sized, filed};
+ghost use Rattle.cnvm_words.specs.App.{option_rule, flag_rule, place_rule, bare_app, sized, pooled};
+ghost use Rattle.cnvm_words.specs.App.{filed};
 ghost use Rattle.cnvm_words.specs.App.{run_app, list_app, storm_app, why_app, workers_app};
 ghost use Rattle.cnvm_words.specs.App.{serve_app, emit_app, code_app, with_others, cnvm_app};
 
@@ -65,7 +66,17 @@ fn with_files<'a>(alloc: Global, command: Command<'a>) -> Result<Command<'a>, Al
 {
     let command = command.arg(option_arg(alloc, "open"))?;
     let command = command.arg(option_arg(alloc, "save"))?;
-    command.arg(option_arg(alloc, "pool"))
+    with_pool(alloc, command)
+}
+
+/// A command with the options of a pool's own file.
+fn with_pool<'a>(alloc: Global, command: Command<'a>) -> Result<Command<'a>, AllocError>
+    requires { (fields_of command).has_globals ≡ false }
+    ensures app { IfOk result (λ r. app_of r ≡ pooled (app_of command.entry)) }
+    ensures local { IfOk result (λ r. (fields_of r).has_globals ≡ false) }
+{
+    let command = command.arg(option_arg(alloc, "pool"))?;
+    command.arg(option_arg(alloc, "from"))
 }
 
 fn run_command<'a>(alloc: Global) -> Result<Command<'a>, AllocError>
@@ -116,8 +127,7 @@ fn serve_command<'a>(alloc: Global) -> Result<Command<'a>, AllocError>
     ensures local { IfOk result (λ r. (fields_of r).has_globals ≡ false) }
 {
     let command = Command::new(alloc, "serve").arg(place_arg(alloc, "program"))?;
-    let command = command.arg(option_arg(alloc, "pool"))?;
-    with_sizes(alloc, command)
+    with_sizes(alloc, with_pool(alloc, command)?)
 }
 
 pub(crate) fn emit_command<'a>(alloc: Global) -> Result<Command<'a>, AllocError>

@@ -17,7 +17,8 @@ pub enum Plan {
         start_image: Option<Text>,
         end_image: Option<Text>,
     },
-    /// Runs the script's commands on the pool of a file. The sizes are as for `Run`.
+    /// Runs the script's commands on the pool of a file, which may be one of the program's former
+    /// text. The sizes are as for `Run`.
     RunPool {
         program_path: Text,
         script_path: Text,
@@ -25,6 +26,7 @@ pub enum Plan {
         records: u64,
         ticks: u64,
         pool_path: Text,
+        former_path: Option<Text>,
     },
     /// Answers lines as they come, on a new pool in memory. The sizes are as for `Run`.
     Serve {
@@ -33,13 +35,14 @@ pub enum Plan {
         records: u64,
         ticks: u64,
     },
-    /// Answers lines as they come, on the pool of a file.
+    /// Answers lines as they come, on the pool of a file, as for `RunPool`.
     ServePool {
         program_path: Text,
         slots: u64,
         records: u64,
         ticks: u64,
         pool_path: Text,
+        former_path: Option<Text>,
     },
     /// Prints the log marks of the program.
     List {

@@ -122,7 +122,11 @@ fn run_plan(alloc: Global, matches: &ArgMatches<'_>) -> Result<Plan, WordsFault>
     };
     let start_image = image_at(alloc, matches, "open")?;
     let end_image = image_at(alloc, matches, "save")?;
+    let former_path = image_at(alloc, matches, "from")?;
     let Some(pool_path) = image_at(alloc, matches, "pool")? else {
+        if former_path.is_some() {
+            return Err(WordsFault::Usage);
+        }
         return Ok(Plan::Run {
             program_path,
             script_path,
@@ -143,6 +147,7 @@ fn run_plan(alloc: Global, matches: &ArgMatches<'_>) -> Result<Plan, WordsFault>
         records,
         ticks,
         pool_path,
+        former_path,
     })
 }
 
@@ -237,7 +242,11 @@ fn serve_plan(alloc: Global, matches: &ArgMatches<'_>) -> Result<Plan, WordsFaul
     let Some((slots, records, ticks)) = pool_of(matches) else {
         return Err(WordsFault::Usage);
     };
+    let former_path = image_at(alloc, matches, "from")?;
     let Some(pool_path) = image_at(alloc, matches, "pool")? else {
+        if former_path.is_some() {
+            return Err(WordsFault::Usage);
+        }
         return Ok(Plan::Serve {
             program_path,
             slots,
@@ -251,6 +260,7 @@ fn serve_plan(alloc: Global, matches: &ArgMatches<'_>) -> Result<Plan, WordsFaul
         records,
         ticks,
         pool_path,
+        former_path,
     })
 }
 

@@ -77,7 +77,7 @@ const RUN: Shape = Shape {
     name: "run",
     places: &["PROGRAM", "SCRIPT"],
     options: &[
-        b"--open", b"--save", b"--pool", b"--slots", b"--log", b"--ticks",
+        b"--open", b"--save", b"--pool", b"--from", b"--slots", b"--log", b"--ticks",
     ],
 };
 
@@ -108,7 +108,7 @@ const WORKERS: Shape = Shape {
 const SERVE: Shape = Shape {
     name: "serve",
     places: &["PROGRAM"],
-    options: &[b"--pool", b"--slots", b"--log", b"--ticks"],
+    options: &[b"--pool", b"--from", b"--slots", b"--log", b"--ticks"],
 };
 
 const EMIT: Shape = Shape {
@@ -131,12 +131,13 @@ const COMMANDS: [&[u8]; 8] = [
 ];
 
 /// The commands and the options with their defaults.
-const HELP: [&str; 24] = [
+const HELP: [&str; 26] = [
     "cnvm run PROGRAM SCRIPT          runs the script's calls on a new pool",
     "    SCRIPT                       a file, or - for standard input",
     "    --open IMAGE                 runs them on the pool of a saved image",
     "    --save IMAGE                 saves the pool at the end",
     "    --pool FILE                  keeps the pool in a file, without these two",
+    "    --from OLD                   moves that pool from the program's former text",
     "cnvm list PROGRAM                tells of each store whether it is logged",
     "cnvm storm PROGRAM START COUNT   runs rounds of drawn calls and power cuts",
     "    START                        chooses them, from 0 to 2147483647",
@@ -146,6 +147,7 @@ const HELP: [&str; 24] = [
     "    --workers W                  how many, from 1 to 8; without it 2",
     "cnvm serve PROGRAM               answers each line of standard input before the next",
     "    --pool FILE                  keeps the pool in a file; without it in memory",
+    "    --from OLD                   moves that pool from the program's former text",
     "cnvm emit PROGRAM                prints the transactions as a C file",
     "    --prefix NAME                begins its names; without it the file's name, or pool",
     "    --header                     prints the header of that file",

@@ -83,13 +83,13 @@ abbrev pub PlanEnds : Plan → Sources → Status → (before after : Outside) �
 PlanEnds (plan.Run p s slots records ticks from save) told result before after =
     RunEnds (asked_by slots records ticks) told (is_some from)
     (is_some save) result before after
-PlanEnds (plan.RunPool p s slots records ticks pool) told result before after =
+PlanEnds (plan.RunPool p s slots records ticks pool former) told result before after =
     Keeps before.image after.image × (after.dev ≡ before.dev)
 PlanEnds (plan.Serve p slots records ticks) told result before after =
     MemoryEnds (asked_by slots records ticks) told result before.out after.out before.dev after.dev
     before.steps after.steps
     × Keeps before.image after.image
-PlanEnds (plan.ServePool p slots records ticks pool) told result before after =
+PlanEnds (plan.ServePool p slots records ticks pool former) told result before after =
     Keeps before.image after.image × (after.dev ≡ before.dev)
 PlanEnds (plan.List p) told result before after =
     ListEnds told.program result before.out after.out × IsUntouched before after

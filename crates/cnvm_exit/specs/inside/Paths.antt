@@ -1,6 +1,7 @@
--- Which path is whose: the program's, the script's, that of the image that is opened or of the
--- pool's file, and that of the image that is saved. Where the words name none, the path is empty.
--- A script comes from standard input where its path is `-`, and so do lines that are served.
+-- Which path is whose: the program's and that of its former text, the script's, that of the image
+-- that is opened or of the pool's file, and that of the image that is saved. Where the words name
+-- none, the path is empty. A script comes from standard input where its path is `-`, and so do
+-- lines that are served.
 use Rattle.std.specs.Prelude.{ℕ, List, [], Option, Some, None, codes, if◌then◌else◌}
 use Rattle.std.specs.Str.{bytes_eq}
 use Rattle.nvm_base.specs.Path.{path_of_source}
@@ -17,11 +18,25 @@ path_or_none (Some path) = path
 
 abbrev pub program_alone : List ℕ → Paths
 program_alone path =
-    record { program = path; origin = File; script = []; image_in = []; image_out = [] }
+    record {
+      program = path;
+      origin = File;
+      script = [];
+      image_in = [];
+      image_out = [];
+      former = [];
+    }
 
-abbrev pub served_paths : (program pool : List ℕ) → Paths
-served_paths program pool =
-    record { program = program; origin = Lines; script = []; image_in = pool; image_out = [] }
+abbrev pub served_paths : (program pool : List ℕ) → (former : Option (List ℕ)) → Paths
+served_paths program pool former =
+    record {
+      program = program;
+      origin = Lines;
+      script = [];
+      image_in = pool;
+      image_out = [];
+      former = path_or_none former;
+    }
 
 abbrev pub origin_of : (path : List ℕ) → Origin
 origin_of path = if bytes_eq path (codes "-") then Input else File
@@ -34,16 +49,19 @@ paths_in (Some (plan.Run program script slots records ticks opened saved)) = rec
   script = script;
   image_in = path_or_none opened;
   image_out = path_or_none saved;
+  former = [];
 }
-paths_in (Some (plan.RunPool program script slots records ticks pool)) = record {
+paths_in (Some (plan.RunPool program script slots records ticks pool former)) = record {
   program = program;
   origin = origin_of script;
   script = script;
   image_in = pool;
   image_out = [];
+  former = path_or_none former;
 }
-paths_in (Some (plan.Serve program slots records ticks)) = served_paths program []
-paths_in (Some (plan.ServePool program slots records ticks pool)) = served_paths program pool
+paths_in (Some (plan.Serve program slots records ticks)) = served_paths program [] None
+paths_in (Some (plan.ServePool program slots records ticks pool former)) =
+    served_paths program pool former
 paths_in (Some (plan.List program)) = program_alone program
 paths_in (Some (plan.Storm program start count slots records ticks)) = program_alone program
 paths_in (Some (plan.Why program)) = program_alone program
@@ -53,6 +71,7 @@ paths_in (Some (plan.Workers program script workers slots records ticks)) = reco
   script = script;
   image_in = [];
   image_out = [];
+  former = [];
 }
 paths_in (Some (plan.Emit program prefix header slots records ticks)) = program_alone program
 paths_in (Some (plan.Code program)) = program_alone program

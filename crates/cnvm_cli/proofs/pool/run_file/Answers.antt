@@ -9,6 +9,11 @@ look_up-requires g c =
     c.in-Ok.ensures.told.0 in
     is.1.well_formed
 
+pub run_found-status-requires : goal.run_found-status-requires
+run_found-status-requires g c =
+    known_bytes _ (λ text. IsCompiled c.args.asked text c.in-Ok.job.compiled)
+    c.in-Ok.ensures.told.0
+
 pub returns-in-Ok-clause-ends : goal.returns-in-Ok-clause-ends
 returns-in-Ok-clause-ends g c =
     inr (

@@ -18,7 +18,11 @@ returns-in-Serve-clause-ends g c =
 
 pub returns-in-ServePool-clause-pool : goal.returns-in-ServePool-clause-pool
 returns-in-ServePool-clause-pool g c =
-    rw (c.in-ServePool.is, ← c.asked_by-asked-in-ServePool.ensures) c.serve_file.ensures.ends
+    rw (
+      c.in-ServePool.is,
+      ← c.asked_by-asked-in-ServePool.ensures,
+      ← c.is_some-moves-in-ServePool.ensures,
+    ) c.serve_file.ensures.ends
 
 pub returns-in-Storm-clause-ends : goal.returns-in-Storm-clause-ends
 returns-in-Storm-clause-ends g c =
@@ -37,4 +41,8 @@ returns-in-Emit-clause-ends g c =
 
 pub returns-in-RunPool-clause-pool : goal.returns-in-RunPool-clause-pool
 returns-in-RunPool-clause-pool g c =
-    rw (c.in-RunPool.is, ← c.asked_by-asked-in-RunPool.ensures) c.run_file.ensures.ends
+    rw (
+      c.in-RunPool.is,
+      ← c.asked_by-asked-in-RunPool.ensures,
+      ← c.is_some-moves.ensures,
+    ) c.run_file.ensures.ends

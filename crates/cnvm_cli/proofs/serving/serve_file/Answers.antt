@@ -9,6 +9,10 @@ look_up-requires g c =
     c.in-Ok.ensures.told in
     is.1.well_formed
 
+pub serve_found-status-requires : goal.serve_found-status-requires
+serve_found-status-requires g c =
+    known_bytes _ (λ text. IsCompiled c.args.asked text c.in-Ok.compiled) c.in-Ok.ensures.told
+
 pub returns-in-Ok-clause-ends : goal.returns-in-Ok-clause-ends
 returns-in-Ok-clause-ends g c =
     inr (c.in-Ok.compiled, c.in-Ok.ensures.told, c.serve_found-status.ensures.ends)

@@ -1,0 +1,37 @@
+use Rattle.std.proofs.Common.{◌≡◌, List, ℤ, inr, refl, sym, ap, ◌∙◌, subst}
+use Rattle.pool_layout.specs.Sizes.{pool_lines}
+use Rattle.cnvm_cli.specs.PoolSide.{PoolSide, held_by, pool_side}
+use Rattle.cnvm_cli.specs.inside.PoolEnds.{RunsOn}
+use Rattle.cnvm_cli.proofs.Taking.{runs_held, runs_other}
+use Rattle.cnvm_cli.proofs.pool.run_words.Goals as goal
+
+pub returns-then-are_same-clause-ends : goal.returns-then-are_same-clause-ends
+returns-then-are_same-clause-ends g c = λ found.
+    let held : List ℤ = c.in-Ok.held in
+    let content = g.F.LineFile.content in
+    let before : PoolSide = pool_side found (g.K.Sink.written c.args.out.now)
+    (held_by g.N.Lines.memory content c.args.dev.now) c.args.steps.now in
+    let after : PoolSide = pool_side found (g.K.Sink.written c.run_held.new.out)
+    (held_by g.N.Lines.memory content c.run_held.new.dev) c.run_held.new.steps in
+    let run = RunsOn c.args.program.now c.args.script.now c.run_held.result before after in
+    inr (runs_held run c.args.program.now (content c.args.file) c.run_held.result before after
+    c.pool_lines.result held c.args.words.now
+    (c.pool_lines.ensures ∙ ap pool_lines c.sizes.ensures) c.in-Ok.ensures.newest
+    (sym c.as_slice-held.ensures ∙ c.are_same.ensures.same c.if-are_same.true)
+    (subst run c.as_slice-held.ensures c.run_held.ensures.ran))
+
+pub returns-clause-ends : goal.returns-clause-ends
+returns-clause-ends g c = λ found.
+    let held : List ℤ = c.in-Ok.held in
+    let content = g.F.LineFile.content in
+    let before : PoolSide = pool_side found (g.K.Sink.written c.args.out.now)
+    (held_by g.N.Lines.memory content c.args.dev.now) c.args.steps.now in
+    let after : PoolSide = pool_side found (g.K.Sink.written c.refuse.new.out)
+    (held_by g.N.Lines.memory content c.args.dev.now) c.args.steps.now in
+    let run = RunsOn c.args.program.now c.args.script.now c.refuse.result before after in
+    inr (runs_other run c.args.program.now (content c.args.file) c.refuse.result before after
+    c.pool_lines.result held c.args.words.now
+    (c.pool_lines.ensures ∙ ap pool_lines c.sizes.ensures) c.in-Ok.ensures.newest
+    (λ (e : held ≡ c.args.words.now). c.are_same.ensures.other c.if-are_same.false
+    (c.as_slice-held.ensures ∙ e)) c.other_words.result c.as_slice-held.result.now
+    c.other_words.ensures c.as_slice-held.ensures (c.refuse.ensures.refused, refl, refl))
