@@ -91,7 +91,8 @@ module _ (choice : Choice) (d : Device) (line : ℕ) (is : unfit choice d ≡ So
   same_pick (answer.Stopped at) so = absurd (some_none (unfit choice d) line is so)
   same_pick answer.DeviceFault so = absurd (some_none (unfit choice d) line is so)
   same_pick answer.RecoveredNone so = absurd (some_none (unfit choice d) line is so)
-  same_pick (answer.RecoveredRedone value logged) so = absurd (some_none (unfit choice d) line is so)
+  same_pick (answer.RecoveredRedone value logged) so =
+      absurd (some_none (unfit choice d) line is so)
   same_pick (answer.RecoveredTrap kind) so = absurd (some_none (unfit choice d) line is so)
   same_pick (answer.RecoveredAborted kind) so = absurd (some_none (unfit choice d) line is so)
   same_pick (answer.Shown text) so = absurd (some_none (unfit choice d) line is so)

@@ -116,8 +116,8 @@ SameOutputLaw =
     AllByRecursion CameToEnd run.answers → AllByRecursion CameToEnd again.answers →
     (written ≡ rewritten) × KnowsTheSame run.last again.last
 
--- Whether a power cut is refused for a pick, and for which, is one answer: the choice and the device
--- tell it.
+-- Whether a power cut is refused for a pick, and for which, is one answer, which the choice and
+-- the device tell.
 abbrev pub OnePickLaw : Type 0
 OnePickLaw =
     (p : Source) (choice : Choice) (x y z : UserMoment) (a b : Answer) → IsBadPick a

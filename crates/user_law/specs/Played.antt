@@ -30,7 +30,7 @@ prepared c a d = d
 abbrev pub unfit : Choice → Device → Option ℕ
 unfit choice d = option_or (fallen 0 choice.picks) (bad (memory_of d) choice.picks)
 
--- A power cut is refused for a pick exactly if one doesn't fit, and then with the line of the first.
+-- A power cut is refused for a pick exactly if one doesn't fit, with the line of the first.
 abbrev pub TellsPick : Command → Answer → Device → Type 0
 TellsPick (command.Power choice) (answer.RefusedPick line) d = unfit choice d ≡ Some line
 TellsPick (command.Power choice) a d = unfit choice d ≡ None

@@ -20,7 +20,8 @@ pub record UserMoment : Type 0 where
   pub history : List Pending
 
 -- One command. Some events are played, no more than the bound; a power cut is refused only for a
--- pick that doesn't fit; the answer is the source's, given the image that is found; then each image is as the user knows; and the history is a function.
+-- pick that doesn't fit; the answer is the source's, given the image that is found; then each
+-- image is as the user knows; and the history is a function.
 pub record UserStep (p : Source) (c : Command) (x : UserMoment)
     (a : Answer) (y : UserMoment) : Type 0 where
   pub events : List CacheEvent
