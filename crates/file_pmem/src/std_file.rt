@@ -126,10 +126,12 @@ impl<F: FileExt + OpenFile + Drop> LineFile for StdFile<F> {
         }
     }
 
+    /// A line past the end of the file is blank, as one that was never written.
     fn read_line(&mut self, line: u64) -> Option<[i64; 8]> {
         let mut bytes = [0; 64];
         match self.file.read_exact_at(&mut bytes, place_of(line)) {
             Ok(()) => Some(words_of(&bytes)),
+            Err(error) if error.kind() == io::ErrorKind::UnexpectedEof => Some([0; 8]),
             Err(error) => {
                 self.fault(Reason::of(&error));
                 None
