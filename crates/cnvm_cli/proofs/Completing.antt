@@ -446,6 +446,8 @@ plan_kept (plan.Workers p s workers slots records ticks) told result before afte
     workers_kept (asked_by slots records ticks) workers told.program told.script
     result before.out after.out before.dev
     after.dev before.steps after.steps has.0 has.1 ends.0 refuses
+plan_kept (plan.WorkersPool p s workers slots records ticks pool) told result before after has ends
+    refuses = has
 plan_kept (plan.Emit p prefix header slots records ticks) told result before after has
     ends refuses =
     emit_kept (asked_by slots records ticks) prefix header told.program result before.out after.out

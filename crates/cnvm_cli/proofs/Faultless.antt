@@ -1,7 +1,7 @@
 -- A device that shows that no fault is armed never fails, and no call on it ends with
 -- `DeviceFault`, but for one that runs on a pool's file.
 use Rattle.std.proofs.Common.{◌≡◌, ℕ, ◌*◌, List, [], ◌∷◌, Bool, true, false, Option, Some, None}
-use Rattle.std.proofs.Common.{is_some, ℤ, inl, inr, refl, sym, ap, subst, Result, Ok, Err}
+use Rattle.std.proofs.Common.{is_some, ℤ, inl, inr, sym, ap, subst, Result, Ok, Err}
 use Rattle.cache_model.specs.Event.{CacheEvent}
 use Rattle.pmem.specs.Device.{Device, MayFail, armed_less, armed_as, spent, blanked}
 use Rattle.pmem.specs.Played.{PlaysPart}
@@ -16,7 +16,6 @@ use Rattle.cnvm_session.specs.declared.creating.StartFault.{StartFault}
 use Rattle.cnvm_session.specs.declared.creating.StartFault.TheVariants as start
 use Rattle.cnvm_session.specs.declared.program.Program.{Program}
 use Rattle.cnvm_session.specs.Unmade.{IsUnmade}
-use Rattle.cnvm_words.specs.Asked.{plan_of}
 use Rattle.cnvm_words.specs.declared.plan.Plan.{Plan}
 use Rattle.cnvm_words.specs.declared.plan.Plan.TheVariants as plan
 use Rattle.cnvm_compile.specs.declared.asked.Asked.{Asked}
@@ -29,7 +28,6 @@ use Rattle.cnvm_cli.specs.Emitted.{EmitEnds}
 use Rattle.cnvm_cli.specs.Listed.{ListEnds}
 use Rattle.cnvm_cli.specs.Meant.{Start, Fresh, FromImage, start_if, StartMeant, JobMeant, RunMeant}
 use Rattle.cnvm_cli.specs.Meant.{PlanMeant, CallMeant}
-use Rattle.cnvm_cli.specs.Opened.{ImageRefuses}
 use Rattle.cnvm_cli.specs.PoolMeant.{HasPool}
 use Rattle.cnvm_cli.specs.Run.{RefusedAs}
 use Rattle.session_run.specs.Told.{TellsAs}
@@ -38,10 +36,10 @@ use Rattle.cnvm_cli.specs.Serve.{StatusOf, IsNeverGivenUp, MemoryMeantTo, ServeM
 use Rattle.session_serve.specs.declared.serving.Served.{Served}
 use Rattle.session_serve.specs.declared.serving.Served.TheVariants as served
 use Rattle.cnvm_cli.specs.StormMeant.{StormMeant}
-use Rattle.cnvm_cli.specs.Verdict.{Grammar, ProgramRefuses, ScriptRefuses, RefuseIn, asked_by}
+use Rattle.cnvm_cli.specs.Verdict.{Grammar, ProgramRefuses, RefuseIn, asked_by}
 use Rattle.cnvm_cli.specs.WhyEnds.{WhyEnds}
 use Rattle.cnvm_cli.specs.WorkersMeant.{WorkersMeant}
-use Rattle.cnvm_cli.specs.World.{Sources, Outside, seen}
+use Rattle.cnvm_cli.specs.World.{Sources, Outside}
 
 -- the device shows that no fault is armed
 abbrev pub IsFaultless : Device → Type 0
@@ -247,6 +245,7 @@ plan_never (plan.Why p) told before after none meant =
 plan_never (plan.Workers p s workers slots records ticks) told before after none meant =
     absurd (workers_never (asked_by slots records ticks) workers told.program told.script before.out
     after.out before.dev after.dev before.steps after.steps none meant.0)
+plan_never (plan.WorkersPool p s workers slots records ticks pool) told before after none meant = tt
 plan_never (plan.Emit p prefix header slots records ticks) told before after none meant =
     let asked = asked_by slots records ticks in
     absurd (emit_never asked prefix header told.program before.out after.out meant.0)

@@ -7,7 +7,7 @@ use Rattle.std.specs.Prelude.{option_map}
 use Rattle.std.specs.Io.KnownBytes.{Consumes, IsAtEnd}
 use Rattle.std.proofs.lemmas.List.{take_all, drop_at, take-append-le, get_or_append_left}
 use Rattle.std.proofs.lemmas.List.{length-take, length-take-le}
-use Rattle.pool_layout.specs.Bytes.{bytes_of, bytes_of_word, word_from, word_in}
+use Rattle.pool_layout.specs.Bytes.{bytes_of, bytes_of_word, word_from}
 use Rattle.pool_layout.specs.Fault.{digest_in}
 use Rattle.cnvm_cli.specs.Verdict.{OfBytes}
 

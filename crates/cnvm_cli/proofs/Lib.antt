@@ -1,4 +1,7 @@
 pub mod Completing
+pub mod CrewMeaning
+pub mod CrewRunning
+pub mod CrewWords
 pub mod Digits
 pub mod Faultless
 pub mod Heads

@@ -290,6 +290,8 @@ plan_meant (plan.Workers p s workers slots records ticks) told result before aft
       after.out before.dev after.dev before.steps after.steps ends.0,
   ends.1,
 )
+plan_meant (plan.WorkersPool p s workers slots records ticks pool) told result before after ends =
+    ends
 plan_meant (plan.Emit p prefix header slots records ticks) told result before after ends = ends
 plan_meant (plan.Code p) told result before after ends = ends
 
@@ -322,6 +324,8 @@ memory_meant (Some (plan.Why p)) told before after keeps same =
     (inl (refused.NoMemory, tt, (refl, keeps)), same)
 memory_meant (Some (plan.Workers p s workers slots records ticks)) told before after keeps same =
     (inl (refused.NoMemory, inl tt, (refl, keeps), same.1, same.2), same.0)
+memory_meant (Some (plan.WorkersPool p s workers slots records ticks pool)) told before after keeps
+    same = (same.0, same.1)
 memory_meant (Some (plan.Emit p prefix header slots records ticks)) told before after keeps same =
     (inl (refused.NoMemory, tt, (refl, keeps)), same)
 memory_meant (Some (plan.Code p)) told before after keeps same =

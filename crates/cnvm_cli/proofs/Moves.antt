@@ -1,5 +1,5 @@
 -- How a former pool is taken and moved, as the bodies promise it.
-use Rattle.std.proofs.Common.{◌≡◌, ◌≢◌, inl, inr, ℕ, ℤ, List, [], Option, Some, None, Ok, Err, refl}
+use Rattle.std.proofs.Common.{◌≡◌, ◌≢◌, inl, inr, ℕ, ℤ, List, [], Option, Ok, Err, refl}
 use Rattle.std.proofs.Common.{Result, sym, subst, ◌∙◌}
 use Rattle.pmem.specs.Device.{Device}
 use Rattle.file_pmem.specs.File.{FileLines}
@@ -17,7 +17,6 @@ use Rattle.session_serve.specs.Begins as serve
 use Rattle.session_serve.specs.Begins.{OpeningEnds}
 use Rattle.session_serve.specs.declared.serving.Served.{Served}
 use Rattle.cnvm_cli.specs.declared.former.FormerPool.{FormerPool}
-use Rattle.cnvm_cli.specs.declared.former.Unheld.{Unheld}
 use Rattle.cnvm_cli.specs.declared.former.Unheld.TheVariants as unheld
 use Rattle.cnvm_cli.specs.declared.refused.Refused.{Refused}
 use Rattle.cnvm_cli.specs.PoolSide.{PoolSide, RefusesFile}
@@ -35,12 +34,13 @@ module _ (run : List ℤ → Type 0) (pool : FormerPool) (shown : Option FileLin
 
   pub pool_refused : (why : Refused) → IsUnheld pool shown (unheld.Refused why)
       → RefusesFile why result before after → TakesPool run pool shown result before after
-  pool_refused why (shown', mended, other, others, newest, is) refuses =
+  pool_refused why (shown', mended, other, long, others, newest, is) refuses =
       inr (
         shown',
         mended,
         inl (
           other,
+          long,
           others,
           newest,
           subst (λ (y : Refused). RefusesFile y result before after) is refuses,

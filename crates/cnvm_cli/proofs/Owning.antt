@@ -22,7 +22,7 @@ use Rattle.cnvm_cli.specs.declared.former.Owned.{Owned}
 use Rattle.cnvm_cli.specs.declared.former.Owned.TheVariants.{Own, Former}
 use Rattle.cnvm_cli.specs.declared.refused.Refused.{Refused}
 use Rattle.cnvm_cli.specs.declared.refused.Refused.TheVariants as refused
-use Rattle.cnvm_cli.specs.Former.{IsOwn, IsOther, is_between, is_cut, owes_cut, unmoved}
+use Rattle.cnvm_cli.specs.Former.{IsOwn, IsOther, is_between, is_move_cut, owes_cut, unmoved}
 use Rattle.cnvm_cli.specs.Opened.{AreImageWords, ImageRefuses, ImageGives}
 use Rattle.cnvm_cli.specs.Verdict.{OfBytes, ProgramRefuses}
 use Rattle.cnvm_cli.specs.inside.FormerEnds.{IsUnsaid, RestReadAs, OwnReadAs, mended_head}
@@ -193,8 +193,8 @@ module _ (asked : Asked) (program : Program) (former image left : Option (List �
           is.compiled
           ∙ ap (λ (d : List ℤ). is_between d old.program.digest program.digest) same ∙ between;
       cut =
-          ap (λ (c : Compiled). is_cut c.program (digest_in bytes)) is.compiled
-          ∙ ap (λ (d : List ℤ). is_cut old.program d) same ∙ is.cut;
+          ap (λ (c : Compiled). is_move_cut c.program (digest_in bytes)) is.compiled
+          ∙ ap (λ (d : List ℤ). is_move_cut old.program d) same ∙ is.cut;
       unowed =
           ap (λ (c : Compiled). owes_cut c.program (digest_in bytes) pool.words) is.compiled
           ∙ ap (λ (ws : List ℤ). owes_cut old.program (digest_in bytes) ws) is.words_are

@@ -42,6 +42,7 @@ use Rattle.cnvm_words.specs.declared.plan.Plan.TheVariants as plan
 use Rattle.cnvm_cli.specs.Verdict.{HasCommands, TextsGive, asked_by}
 use Rattle.cnvm_cli.specs.World.{Sources}
 use Rattle.cnvm_cli.specs.inside.PoolEnds.{RunsOn, RunsNew, RunsMoved, FileEnds, PlanOnFileEnds}
+use Rattle.cnvm_cli.proofs.CrewMeaning.{crew_meant}
 use Rattle.cnvm_cli.proofs.Meaning.{run_all, run_part, opened_meant}
 use Rattle.cnvm_cli.proofs.Moments.{opened_to}
 use Rattle.cnvm_cli.proofs.MovedMeaning.{moves_meant}
@@ -271,6 +272,8 @@ plan_on_file (plan.List p) told result before after ends = ends
 plan_on_file (plan.Storm p start count slots records ticks) told result before after ends = ends
 plan_on_file (plan.Why p) told result before after ends = ends
 plan_on_file (plan.Workers p s workers slots records ticks) told result before after ends = ends
+plan_on_file (plan.WorkersPool p s workers slots records ticks pool) told result before after ends =
+    crew_meant (asked_by slots records ticks) workers told result before after ends
 plan_on_file (plan.Emit p prefix header slots records ticks) told result before after ends = ends
 plan_on_file (plan.Code p) told result before after ends = ends
 
@@ -307,6 +310,9 @@ memory_of_plan (plan.Storm p start count slots records ticks) told before after 
 memory_of_plan (plan.Why p) told before after keeps same = (same.held, same.found)
 memory_of_plan (plan.Workers p s workers slots records ticks) told before after keeps same =
     (same.held, same.found)
+memory_of_plan (plan.WorkersPool p s workers slots records ticks pool) told before after keeps
+    same =
+    inl (refused.NoMemory, inl tt, (refl, keeps), same)
 memory_of_plan (plan.Emit p prefix header slots records ticks) told before after keeps same =
     (same.held, same.found)
 memory_of_plan (plan.Code p) told before after keeps same = (same.held, same.found)

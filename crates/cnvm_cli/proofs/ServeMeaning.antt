@@ -1,5 +1,5 @@
 -- Serving means what the source says.
-use Rattle.std.proofs.Common.{◌≡◌, inl, inr, List, [], ◌∷◌, ◌++◌, Option, Some, None, ℕ, ℤ, Result}
+use Rattle.std.proofs.Common.{◌≡◌, inl, inr, List, [], ◌∷◌, Option, Some, None, ℕ, ℤ, Result}
 use Rattle.std.proofs.Common.{Bool, Ok, Err, IfSome, sym, refl, ◌∙◌}
 use Rattle.cache_model.specs.Cache.{Words}
 use Rattle.pmem.specs.Device.{Device}
@@ -27,7 +27,7 @@ use Rattle.session_run.specs.declared.status.Status.{Status}
 use Rattle.session_run.specs.Made.{Created}
 use Rattle.session_serve.specs.declared.serving.Served.{Served}
 use Rattle.session_serve.specs.declared.serving.Served.TheVariants as served
-use Rattle.session_serve.specs.Begins.{EndsAfter, ServedAfter, NewServed, CreatedServed}
+use Rattle.session_serve.specs.Begins.{ServedAfter, NewServed, CreatedServed}
 use Rattle.session_serve.specs.Begins.{OpenedServed, OpeningEnds}
 use Rattle.session_serve.specs.Serves.{DoesMeaning, Serves, ServesTo, ServesPart, ServingEnds}
 use Rattle.cnvm_compile.specs.declared.asked.Asked.{Asked}

@@ -1,6 +1,6 @@
 -- How a file is taken that may have a former program's pool.
-use Rattle.std.proofs.Common.{◌≡◌, inl, inr, ℕ, ℤ, pos, List, Bool, true, false, Option, refl, sym}
-use Rattle.std.proofs.Common.{slice_index_or, ap, subst, ◌∙◌}
+use Rattle.std.proofs.Common.{◌≡◌, ◌⊎◌, inl, inr, ℕ, ℤ, pos, List, Bool, true, false, Option, refl}
+use Rattle.std.proofs.Common.{◌*◌, length, sym, slice_index_or, ap, subst, ◌∙◌}
 use Rattle.std.specs.Prelude.{option_map}
 use Rattle.file_pmem.specs.File.{FileLines, HoldsNewest}
 use Rattle.pool_layout.specs.declared.wanted.ImageFault.TheVariants.{Version}
@@ -17,10 +17,11 @@ use Rattle.cnvm_compile.specs.Compilation.{IsCompiled}
 use Rattle.cnvm_cli.specs.declared.former.FormerPool.{FormerPool}
 use Rattle.cnvm_cli.specs.declared.refused.Refused.{Refused}
 use Rattle.cnvm_cli.specs.declared.refused.Refused.TheVariants as refused
-use Rattle.cnvm_cli.specs.Former.{is_between, is_cut, owes_cut, unmoved, IsMended, TakesGiven}
+use Rattle.cnvm_cli.specs.Former.{unmoved, MendsLine, TakesGiven}
 use Rattle.cnvm_cli.specs.Former.{IsOther, TakesFormer, TakesOther, TakesEither, TakesIf}
-use Rattle.cnvm_cli.specs.Opened.{ImageGives}
-use Rattle.cnvm_cli.specs.PoolSide.{PoolSide, RefusesFile, RunsWords, TakesFile}
+use Rattle.cnvm_cli.specs.Opened.{ImageRefuses, ImageGives}
+use Rattle.cnvm_cli.specs.PoolSide.{PoolSide, IsSilent, RefusesFile, RunsWordsOn, RunsWords}
+use Rattle.cnvm_cli.specs.PoolSide.{TakesImage, TakesFile}
 use Rattle.cnvm_cli.specs.Run.{RefusedAs}
 use Rattle.cnvm_cli.specs.Verdict.{OfBytes}
 use Rattle.cnvm_cli.specs.inside.FormerEnds.{IsTakenAsOwn, IsFormerImage, IsFormerPool}
@@ -34,57 +35,66 @@ newest_by a l n h w count same holds =
     (subst (λ (xs : List ℤ). HoldsNewest a l xs) same holds)
 
 -- the refusal of a file whose words are others
-version_told : (x : Refused) (given held : List ℤ) (r : Status) (w w' : Option (List ℕ))
-    → x ≡ refused.Image (Version (slice_index_or given 1 (pos 0)) (pos 2)) → given ≡ held
+version_told : (v : ℕ) (x : Refused) (given held : List ℤ) (r : Status) (w w' : Option (List ℕ))
+    → x ≡ refused.Image (Version (slice_index_or given v (pos 0)) (pos 2)) → given ≡ held
     → RefusedAs x r w w'
-    → RefusedAs (refused.Image (Version (slice_index_or held 1 (pos 0)) (pos 2))) r w w'
-version_told x given held r w w' is same told =
+    → RefusedAs (refused.Image (Version (slice_index_or held v (pos 0)) (pos 2))) r w w'
+version_told v x given held r w w' is same told =
     subst (λ (y : Refused). RefusedAs y r w w')
-    (is ∙ ap (λ (xs : List ℤ). refused.Image (Version (slice_index_or xs 1 (pos 0)) (pos 2))) same)
+    (is ∙ ap (λ (xs : List ℤ). refused.Image (Version (slice_index_or xs v (pos 0)) (pos 2))) same)
     told
 
 -- what is run on the words of a file, and how other words are refused
-module _ (run : List ℤ → Type 0) (program : Program) (shown : Option FileLines) (result : Status)
-    (before after : PoolSide) (n : ℕ) (held words : List ℤ)
-    (count : n ≡ pool_lines (sizes_of program)) (newest : HoldsNewest shown n held) where
+module _ (run : List ℤ → Type 0) (lines version : ℕ) (shown : Option FileLines)
+    (result : Status) (before after : PoolSide) (n : ℕ) (held words : List ℤ) (count : n ≡ lines)
+    (newest : HoldsNewest shown n held) where
   pub runs_held : held ≡ words → run held
-      → RunsWords run program words shown result before after
+      → RunsWordsOn run words lines version shown result before after
   runs_held same ran =
-      inr (
-        newest_by shown n (pool_lines (sizes_of program)) held words count same newest,
-        subst run same ran,
-      )
+      inr (newest_by shown n lines held words count same newest, subst run same ran)
 
-  pub runs_other : (held ≡ words → ⊥) → (x : Refused) (given : List ℤ)
-      → x ≡ refused.Image (Version (slice_index_or given 1 (pos 0)) (pos 2)) → given ≡ held
+  pub runs_other : length held ≡ 8 * n → (held ≡ words → ⊥) → (x : Refused) (given : List ℤ)
+      → x ≡ refused.Image (Version (slice_index_or given version (pos 0)) (pos 2)) → given ≡ held
       → RefusesFile x result before after
-      → RunsWords run program words shown result before after
-  runs_other other x given is same refuses =
+      → RunsWordsOn run words lines version shown result before after
+  runs_other long other x given is same refuses =
       inl (
         held,
+        long ∙ ap (λ (k : ℕ). 8 * k) count,
         other,
-        newest_by shown n (pool_lines (sizes_of program)) held held count refl newest,
+        newest_by shown n lines held held count refl newest,
         (
-          version_told x given held result before.out after.out is same refuses.0,
+          version_told version x given held result before.out after.out is same refuses.0,
           refuses.1,
           refuses.2,
         ),
       )
 
 -- the image gives the words on which the file is taken
+pub words_image : (refuses : Refused → Type 0) (gives run : List ℤ → Type 0)
+    (lines version : ℕ) (shown : Option FileLines) (result : Status) (before after : PoolSide)
+    (given words : List ℤ) → given ≡ words → gives words
+    → IsSilent result before after ⊎ RunsWordsOn run given lines version shown result before after
+    → TakesImage refuses gives run lines version shown result before after
+words_image refuses gives run lines version shown result before after given words same is
+    (inl silent) =
+    inr (inl silent)
+words_image refuses gives run lines version shown result before after given words same is
+    (inr runs) =
+    inr (inr (
+      words,
+      is,
+      subst (λ (ws : List ℤ). RunsWordsOn run ws lines version shown result before after) same runs,
+    ))
+
 pub words_file : (run : List ℤ → Type 0) (program : Program) (image : Option (List ℕ))
     (shown : Option FileLines) (result : Status) (before after : PoolSide) (given words : List ℤ)
     → given ≡ words → ImageGives program image words
     → TakesWords run program given shown result before after
     → TakesFile run program image shown result before after
-words_file run program image shown result before after given words same gives (inl silent) =
-    inr (inl silent)
-words_file run program image shown result before after given words same gives (inr runs) =
-    inr (inr (
-      words,
-      gives,
-      subst (λ (ws : List ℤ). RunsWords run program ws shown result before after) same runs,
-    ))
+words_file run program image =
+    words_image (ImageRefuses program image) (ImageGives program image) run
+    (pool_lines (sizes_of program)) 1
 
 module _ (asked : Asked) (former : Option (List ℕ)) (run : List ℤ → Type 0)
     (moved : Compiled → List ℤ → Type 0) (program : Program) (image : Option (List ℕ))
@@ -164,7 +174,7 @@ module _ (asked : Asked) (former : Option (List ℕ)) (run : List ℤ → Type 0
                 (λ bytes i. inr (
                   i.unowed,
                   shown',
-                  subst (λ (b : Bool). IsMended b pool.words shown shown') (sym i.cut) mended,
+                  subst (λ (b : Bool). MendsLine b pool.words shown shown') (sym i.cut) mended,
                   runs,
                 ))
                 is.is,

@@ -1,11 +1,14 @@
 -- A run of a script of workers means what its program's source says.
-use Rattle.std.proofs.Common.{ℕ, List, Option, inl, inr}
+use Rattle.std.proofs.Common.{ℕ, List, Option, Result, Ok, Err, OnOk, IsErrOf, ◌⊎◌, inl, inr, refl}
 use Rattle.std.specs.List.{AllByRecursion}
 use Rattle.pmem.specs.Device.{Device}
 use Rattle.cnvm_session.specs.declared.program.Program.{Program}
 use Rattle.workers_script.specs.declared.command.WorkersCommand.{WorkersCommand}
 use Rattle.workers_script.specs.WorkersGrammar.{workers_script_meaning}
-use Rattle.workers_run.specs.WorkersRan.{Unbegun}
+use Rattle.pool_workers.specs.declared.answer.MakeFault.TheVariants as make
+use Rattle.workers_run.specs.declared.fault.RunFault.{RunFault}
+use Rattle.workers_run.specs.declared.fault.RunFault.TheVariants as fault
+use Rattle.workers_run.specs.WorkersRan.{Unbegun, RunsNew, BreaksOffNew}
 use Rattle.session_law.specs.Agrees.{Agrees}
 use Rattle.workers_source_law.specs.Law.{HasWordArgs}
 use Rattle.workers_source_law.proofs.Runs.{workers_run, workers_part}
@@ -15,9 +18,25 @@ use Rattle.cnvm_compile.specs.Compilation.{IsCompiled}
 use Rattle.session_run.specs.declared.status.Status.{Status}
 use Rattle.cnvm_cli.specs.Verdict.{SpellsIn}
 use Rattle.cnvm_cli.specs.inside.WorkersEnds.{WorkersRanAs, WorkersEnds}
-use Rattle.cnvm_cli.specs.WorkersMeant.{make_fault, WorkersMeantAs, WorkersMeant}
+use Rattle.cnvm_cli.specs.WorkersMeant.{make_fault, run_status, WorkersMeantAs, WorkersMeant}
 use Rattle.cnvm_cli.proofs.Sources.{known_bytes}
 use Rattle.cnvm_cli.proofs.Statuses.{status_map}
+
+-- how a run ends, by its status
+pub ran_by : (program : Program) (count : ℕ) (commands : List WorkersCommand)
+    (w w' : Option (List ℕ)) (d d' : Device) (k k' : ℕ) (r : Result Unit RunFault)
+    → OnOk r (RunsNew program count commands w w' d d' k k')
+    → (IsErrOf r fault.Write → BreaksOffNew program count commands w w' d d' k k')
+    → (IsErrOf r fault.Device → Unbegun make.Failed program count w w' d d' k k')
+    → (IsErrOf r fault.NoMemory → Unbegun make.NoMemory program count w w' d d' k k'
+    ⊎ BreaksOffNew program count commands w w' d d' k k')
+    → WorkersRanAs program count commands (run_status r) w w' d d' k k'
+ran_by program count commands w w' d d' k k' (Ok u) all part device memory = all
+ran_by program count commands w w' d d' k k' (Err fault.Write) all part device memory = part refl
+ran_by program count commands w w' d d' k k' (Err fault.Device) all part device memory =
+    device refl
+ran_by program count commands w w' d d' k k' (Err fault.NoMemory) all part device memory =
+    memory refl
 
 ran_meant : (program : Program) → Agrees program → (count : ℕ) (commands : List WorkersCommand)
     → AllByRecursion HasWordArgs commands → (result : Status) (w w' : Option (List ℕ))

@@ -67,6 +67,7 @@ IsPlanServed (plan.Why p) told = HasProgram listing_sizes told.program
 IsPlanServed (plan.Workers p s workers slots records ticks) told =
     HasProgram (asked_by slots records ticks) told.program
     × HasScript workers_script_meaning told.script
+IsPlanServed (plan.WorkersPool p s workers slots records ticks pool) told = ⊥
 IsPlanServed (plan.Emit p prefix header slots records ticks) told =
     HasProgram (asked_by slots records ticks) told.program
 IsPlanServed (plan.Code p) told = HasProgram listing_sizes told.program

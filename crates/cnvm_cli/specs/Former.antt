@@ -56,8 +56,8 @@ is_between found former new =
     && (is_either_at found former new 2 && is_either_at found former new 3))
 
 -- whether a move of the pool was cut
-abbrev pub is_cut : Program → (found : List ℤ) → Bool
-is_cut former found = not (pointwise int_eq found former.digest)
+abbrev pub is_move_cut : Program → (found : List ℤ) → Bool
+is_move_cut former found = not (pointwise int_eq found former.digest)
 
 -- whether an image owes a transaction: it has no mark, and is sealed
 abbrev pub is_owing : Words → Bool
@@ -66,20 +66,20 @@ is_owing image = int_eq (image MARK) (pos 0) && is_sealed image
 -- Whether a pool whose move was cut owes a transaction. No pool is moved before it is recovered, so
 -- such a pool is neither program's.
 abbrev pub owes_cut : Program → (found words : List ℤ) → Bool
-owes_cut former found words = is_cut former found && is_owing (image_words words)
+owes_cut former found words = is_move_cut former found && is_owing (image_words words)
 
 -- an image as the former program has it, whose digest it gets
 abbrev pub unmoved : Program → List ℕ → List ℕ
 unmoved former bytes = take 64 bytes ++ (bytes_of former.digest ++ drop 96 bytes)
 
 -- the words of line 1
-abbrev pub digest_line : List ℤ → List ℤ
-digest_line words = take 8 (drop 8 words)
+abbrev pub mended_line : List ℤ → List ℤ
+mended_line words = take 8 (drop 8 words)
 
 -- Where a move was cut, line 1 of the file is written as it is in these words, before all else.
-abbrev pub IsMended : (cut : Bool) → (words : List ℤ) → (shown shown' : Option FileLines) → Type 0
-IsMended false words shown shown' = shown' ≡ shown
-IsMended true words shown shown' = WritesFile shown 1 (digest_line words) shown'
+abbrev pub MendsLine : (cut : Bool) → (words : List ℤ) → (shown shown' : Option FileLines) → Type 0
+MendsLine false words shown shown' = shown' ≡ shown
+MendsLine true words shown shown' = WritesFile shown 1 (mended_line words) shown'
 
 -- An image gives these words of a former program's pool. It is refused where its move was cut and
 -- it owes a transaction; else line 1 is mended, and the words are run on if the file then holds
@@ -90,7 +90,7 @@ TakesGiven moved former new words shown result before after found =
     ((owes_cut former found words ≡ true)
     × RefusesFile (refused.Image (Digest found new.digest)) result before after)
     ⊎ ((owes_cut former found words ≡ false)
-    × (shown' : Option FileLines) × IsMended (is_cut former found) words shown shown'
+    × (shown' : Option FileLines) × MendsLine (is_move_cut former found) words shown shown'
     × RunsWords moved former words shown' result before after)
 
 -- A file is held that has the former program's pool. Its image, with that program's digest, is
@@ -146,8 +146,8 @@ abbrev pub shape_line : List ℕ → List ℕ
 shape_line name = codes "image shape " ++ (name ++ codes "\n")
 
 -- nothing more is done
-abbrev pub IsLeft : Device → (steps : ℕ) → (after : PoolSide) → Type 0
-IsLeft d k after = (after.held.device ≡ d) × (after.steps ≡ k)
+abbrev pub DoesNoMore : Device → (steps : ℕ) → (after : PoolSide) → Type 0
+DoesNoMore d k after = (after.held.device ≡ d) × (after.steps ≡ k)
 
 -- the moment after a move: only the device is another
 abbrev pub moved_moment : Device → Moment → Moment
@@ -161,11 +161,11 @@ abbrev pub MovesOn : (go : Words → Moment → Type 0) → (former new : Progra
     → Status → (told : Option (List ℕ)) → (after : PoolSide) → Type 0
 MovesOn go former new super x result told after =
     ((is_recovered x.mode ≡ false) × (result ≡ status.NoMemory) × (after.out ≡ told)
-    × IsLeft x.device x.steps after)
+    × DoesNoMore x.device x.steps after)
     ⊎ ((is_recovered x.mode ≡ true)
     × (((name : List ℕ) × (first_other former.typed new.typed ≡ Some name)
     × TellsAs status.Image (shape_line name) result told after.out
-    × IsLeft x.device x.steps after)
+    × DoesNoMore x.device x.steps after)
     ⊎ ((first_other former.typed new.typed ≡ None)
     × ((IsUnmoved new result after.held.state x.device after.held.device × (after.out ≡ told)
     × (after.steps ≡ x.steps))

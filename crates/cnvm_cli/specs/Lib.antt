@@ -1,5 +1,7 @@
 pub mod CodeEnds
 pub mod Complete
+pub mod CrewMeant
+pub mod CrewOpened
 pub mod Emitted
 pub mod Former
 pub mod Listed

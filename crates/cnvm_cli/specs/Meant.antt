@@ -194,6 +194,8 @@ PlanMeant (plan.Workers p s workers slots records ticks) told result before afte
     WorkersMeant (asked_by slots records ticks) workers told.program told.script result
     before.out after.out before.dev after.dev before.steps after.steps
     × Keeps before.image after.image
+PlanMeant (plan.WorkersPool p s workers slots records ticks pool) told result before after =
+    Keeps before.image after.image × (after.dev ≡ before.dev)
 PlanMeant (plan.Emit p prefix header slots records ticks) told result before after =
     EmitEnds (asked_by slots records ticks) prefix header told.program result before.out after.out
     × IsUntouched before after

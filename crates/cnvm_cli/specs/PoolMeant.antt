@@ -1,6 +1,6 @@
 -- What a run on the pool of a file means. The pool's lines lie in a device that is mirrored in the
 -- file: whatever a killed process or a loss of power leaves of the file is an image of the device.
-use Rattle.std.specs.Prelude.{ℕ, ℤ, ◌≡◌, ◌≢◌, ◌⊎◌, List, [], ◌++◌, Option, Some, None, ⊤}
+use Rattle.std.specs.Prelude.{ℕ, ℤ, ◌≡◌, ◌≢◌, ◌⊎◌, List, [], ◌++◌, Option, Some, ⊤}
 use Rattle.std.specs.Prelude.{Bool, is_some}
 use Rattle.std.specs.Io.KnownBytes.{Appends}
 use Rattle.cache_model.specs.Cache.{Words}
@@ -22,6 +22,7 @@ use Rattle.session_run.specs.Held.{FirstTold}
 use Rattle.cnvm_compile.specs.declared.asked.Asked.{Asked}
 use Rattle.cnvm_compile.specs.declared.compiling.Compiled.{Compiled}
 use Rattle.cnvm_cli.specs.declared.refused.Refused.{Refused}
+use Rattle.cnvm_cli.specs.CrewMeant.{CrewMeant}
 use Rattle.cnvm_cli.specs.Former.{MovesOn, TakesIf}
 use Rattle.cnvm_cli.specs.Meant.{RanAll, RanPart, OpenedMeantAs}
 use Rattle.cnvm_cli.specs.PoolSide.{PoolSide, IsKept, IsUnrun, RunsFile}
@@ -116,6 +117,7 @@ FileMeant asked moves told result before after =
 abbrev pub HasPool : Option Plan → Type 0
 HasPool (Some (plan.RunPool p s slots records ticks pool former)) = ⊤
 HasPool (Some (plan.ServePool p slots records ticks pool former)) = ⊤
+HasPool (Some (plan.WorkersPool p s workers slots records ticks pool)) = ⊤
 HasPool _ = ⊥
 
 -- A call by its plan: one that names no pool's file leaves the device over it as it was.
@@ -124,6 +126,8 @@ PlanOnFile (Some (plan.RunPool p s slots records ticks pool former)) told result
     FileMeant (asked_by slots records ticks) (is_some former) told result before after
 PlanOnFile (Some (plan.ServePool p slots records ticks pool former)) told result before after =
     ServeFileMeant (asked_by slots records ticks) (is_some former) told result before after
+PlanOnFile (Some (plan.WorkersPool p s workers slots records ticks pool)) told result before after =
+    CrewMeant (asked_by slots records ticks) workers told result before after
 PlanOnFile _ told result before after =
     (after.held ≡ before.held) × (after.found ≡ before.found)
 

@@ -1,7 +1,7 @@
 -- What clauses see of a pool's file, and what is run by where the name of the file leads. The
 -- pool's lines lie in a device that is mirrored in the file.
-use Rattle.std.specs.Prelude.{ℕ, ◌≡◌, ◌≢◌, ◌⊎◌, List, Option, Some, None, true, ⊤}
-use Rattle.std.specs.Prelude.{ℤ, pos, slice_index_or}
+use Rattle.std.specs.Prelude.{ℕ, ◌≡◌, ◌≢◌, ◌⊎◌, List, Option, Some, None, true, ⊤, ℤ, pos}
+use Rattle.std.specs.Prelude.{◌*◌, length, slice_index_or}
 use Rattle.std.specs.Io.KnownBytes.{Keeps}
 use Rattle.cache_model.specs.Cache.{Memory}
 use Rattle.pmem.specs.Device.{Device, memory_of}
@@ -74,15 +74,19 @@ IsSilent result before after =
     ((result ≡ status.NoMemory) ⊎ ((result ≡ status.DeviceFault) ⊎ (result ≡ status.ReadFault)))
     × Keeps before.out after.out × (after.steps ≡ before.steps)
 
--- No file has the name: a pool is created in memory, and a file is made of its words. Without
--- memory, or where the port fails, nothing is run; nor where the name is taken meanwhile. What is
--- run on the new pool is `new`.
+-- No file has the name: a pool is created in memory, as `created` says of its device, and a file is
+-- made of its words. Without memory, or where the port fails, nothing is run; nor where the name is
+-- taken meanwhile. What is run on the new pool is `new`.
+abbrev pub MakesFile : (created new : Device → Type 0) → Status → (before after : PoolSide) → Type 0
+MakesFile created new result before after =
+    IsSilent result before after
+    ⊎ ((RefusedAs refused.Busy result before.out after.out × (after.steps ≡ before.steps))
+    ⊎ ((b : Device) × created b × new b))
+
 abbrev pub MakesPool : (new : Device → Type 0) → Program → Status → (before after : PoolSide)
     → Type 0
 MakesPool new program result before after =
-    IsSilent result before after
-    ⊎ ((RefusedAs refused.Busy result before.out after.out × (after.steps ≡ before.steps))
-    ⊎ ((b : Device) × Created program before.held.device b × new b))
+    MakesFile (Created program before.held.device) new result before after
 
 -- the file is refused, and this is reported
 abbrev pub RefusesFile : Refused → Status → (before after : PoolSide) → Type 0
@@ -90,33 +94,53 @@ RefusesFile why result before after =
     RefusedAs why result before.out after.out × (after.held ≡ before.held)
     × (after.steps ≡ before.steps)
 
--- A file that shows this holds other words than these, as one of the first version does, whose
--- words are moved; or these are run on.
+-- A file that shows this holds other words than these on so many lines, as one of the first version
+-- does, whose words are moved: then its version is told, which is the word at this place; or these
+-- are run on.
+abbrev pub RunsWordsOn : (run : List ℤ → Type 0) → List ℤ → (lines version : ℕ)
+    → (shown : Option FileLines) → Status → (before after : PoolSide) → Type 0
+RunsWordsOn run words lines version shown result before after =
+    ((other : List ℤ) × (length other ≡ 8 * lines) × (other ≢ words)
+    × HoldsNewest shown lines other
+    × RefusesFile (refused.Image (Version (slice_index_or other version (pos 0)) (pos 2))) result
+    before after)
+    ⊎ (HoldsNewest shown lines words × run words)
+
 abbrev pub RunsWords : (run : List ℤ → Type 0) → Program → List ℤ → (shown : Option FileLines)
     → Status → (before after : PoolSide) → Type 0
 RunsWords run program words shown result before after =
-    ((other : List ℤ) × (other ≢ words)
-    × HoldsNewest shown (pool_lines (sizes_of program)) other
-    × RefusesFile (refused.Image (Version (slice_index_or other 1 (pos 0)) (pos 2))) result before
-    after)
-    ⊎ (HoldsNewest shown (pool_lines (sizes_of program)) words × run words)
+    RunsWordsOn run words (pool_lines (sizes_of program)) 1 shown result before after
 
--- A file is held that shows this. It is refused as an image is; or it holds other words than the
--- image gives; or it is run on.
+-- A file is held that shows this. It is refused as an image is; or so many lines of it hold other
+-- words than the image gives, as those of one of the first version do, whose words are moved; or it
+-- is run on.
+abbrev pub TakesImage : (refuses : Refused → Type 0) → (gives run : List ℤ → Type 0)
+    → (lines version : ℕ) → (shown : Option FileLines) → Status → (before after : PoolSide)
+    → Type 0
+TakesImage refuses gives run lines version shown result before after =
+    ((why : Refused) × refuses why × RefusesFile why result before after)
+    ⊎ (IsSilent result before after
+    ⊎ ((words : List ℤ) × gives words
+    × RunsWordsOn run words lines version shown result before after))
+
 abbrev pub TakesFile : (run : List ℤ → Type 0) → Program → (image : Option (List ℕ))
     → (shown : Option FileLines) → Status → (before after : PoolSide) → Type 0
 TakesFile run program image shown result before after =
-    ((why : Refused) × ImageRefuses program image why × RefusesFile why result before after)
-    ⊎ (IsSilent result before after
-    ⊎ ((words : List ℤ) × ImageGives program image words
-    × RunsWords run program words shown result before after))
+    TakesImage (ImageRefuses program image) (ImageGives program image) run
+    (pool_lines (sizes_of program)) 1 shown result before after
 
--- What is run, by where the name of the pool's file leads: `takes` says how a file is taken.
+-- What is run, by where the name of a file leads: `takes` says how a file is taken, and `makes` how
+-- one is made.
+abbrev pub RunsFound : (takes : Option FileLines → Type 0) → (makes : Type 0) → Status
+    → (before after : PoolSide) → Type 0
+RunsFound takes makes result before after =
+    (Tells before.found Taken × RefusesFile refused.Busy result before after)
+    ⊎ (IsSilent result before after
+    ⊎ ((Tells before.found Nothing × makes)
+    ⊎ ((shown : Option FileLines) × TellsFile before.found shown
+    × takes shown)))
+
 abbrev pub RunsFile : (takes : Option FileLines → Type 0) → (new : Device → Type 0) → Program
     → Status → (before after : PoolSide) → Type 0
 RunsFile takes new program result before after =
-    (Tells before.found Taken × RefusesFile refused.Busy result before after)
-    ⊎ (IsSilent result before after
-    ⊎ ((Tells before.found Nothing × MakesPool new program result before after)
-    ⊎ ((shown : Option FileLines) × TellsFile before.found shown
-    × takes shown)))
+    RunsFound takes (MakesPool new program result before after) result before after

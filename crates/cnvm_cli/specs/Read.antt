@@ -18,5 +18,7 @@ IsRead (plan.Storm p start count slots records ticks) program script = IsAtEnd p
 IsRead (plan.Why p) program script = IsAtEnd program
 IsRead (plan.Workers p s workers slots records ticks) program script =
     IsAtEnd program × IsAtEnd script
+IsRead (plan.WorkersPool p s workers slots records ticks pool) program script =
+    IsAtEnd program × IsAtEnd script
 IsRead (plan.Emit p prefix header slots records ticks) program script = IsAtEnd program
 IsRead (plan.Code p) program script = IsAtEnd program

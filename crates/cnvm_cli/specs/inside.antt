@@ -1,4 +1,5 @@
 -- What only bodies and proofs need: no public clause rests on it.
+pub mod CrewEnds
 pub mod Ends
 pub mod FormerEnds
 pub mod Opened

@@ -297,7 +297,8 @@ fn word_at(words: &[i64], place: u64) -> i64
 fn mend<F: LineFile>(file: &mut F, pool: &FormerPool) -> FileAnswer
     requires { 16 ≤ length pool.now.words }
     ensures { result ≡ Done
-        → former_is.IsMended pool.now.cut pool.now.words (F.content file.old) (F.content file.new) }
+        → former_is.MendsLine pool.now.cut pool.now.words (F.content file.old)
+        (F.content file.new) }
 {
     if !pool.cut {
         return FileAnswer::Done;

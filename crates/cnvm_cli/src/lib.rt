@@ -5,6 +5,7 @@
 //! the words, the program, the script and the image call for.
 #![tactic(auto)]
 
+mod crew_reading;
 mod former;
 mod instructions;
 mod native;
@@ -16,6 +17,7 @@ mod run;
 mod serving;
 mod traps;
 mod workers;
+mod workers_pool;
 mod world;
 
 pub use cnvm_compile::{Asked, Compiled, ProgramFault, compile, list_text};

@@ -11,7 +11,7 @@ ghost use Rattle.file_pmem.specs.Found.{Found};
 ghost use Rattle.pool_layout.specs.Sizes.{pool_lines};
 ghost use Rattle.cnvm_cli.specs.PoolSide.{held_by, pool_side, IsKept};
 ghost use Rattle.cnvm_cli.specs.World.{told_by};
-ghost use Rattle.cnvm_cli.specs.inside.FormerEnds.{IsOfText, IsUsable};
+ghost use Rattle.cnvm_cli.specs.inside.FormerEnds.{ComesFromText, IsUsable};
 ghost use Rattle.cnvm_cli.specs.inside.PoolEnds.{FileEnds, FoundEnds, MissingEnds, ImageEnds};
 ghost use Rattle.cnvm_cli.specs.inside.PoolEnds.{WordsEnd, EitherEnds, MovedEnds, RunsMoved};
 
@@ -105,7 +105,7 @@ fn run_found<S: Source, I: Source, K: Sink, N: Lines + Drop, G: Pools, L: Ledger
     dev: &mut FilePmem<N, G::File>,
     steps: &mut Steps<L>,
 ) -> Status
-    requires { IsOfText asked job.now.compiled }
+    requires { ComesFromText asked job.now.compiled }
     ensures usage { result ≢ Status.Usage }
     ensures write { result ≡ Status.WriteFault → Rose (K.faults out.old) (K.faults out.new) }
     ensures ends { FoundEnds asked moves job.now.compiled.program job.now.script
@@ -245,7 +245,7 @@ fn run_either<S: Source, I: Source, K: Sink, N: Lines + Drop, F: LineFile + Drop
     dev: &mut FilePmem<N, F>,
     steps: &mut Steps<L>,
 ) -> Status
-    requires { IsOfText asked job.now.compiled }
+    requires { ComesFromText asked job.now.compiled }
     ensures usage { result ≢ Status.Usage }
     ensures write { result ≡ Status.WriteFault → Rose (K.faults out.old) (K.faults out.new) }
     ensures ends { (found : Option Found) → EitherEnds asked job.now.compiled.program

@@ -10,7 +10,7 @@ ghost use Rattle.pmem.specs.Device as device;
 ghost use Rattle.cnvm_cli.specs.PoolSide.{held_by, pool_side, IsKept};
 ghost use Rattle.cnvm_cli.specs.Serve.{StatusOf};
 ghost use Rattle.cnvm_cli.specs.World.{told_by};
-ghost use Rattle.cnvm_cli.specs.inside.FormerEnds.{IsOfText, IsUsable};
+ghost use Rattle.cnvm_cli.specs.inside.FormerEnds.{ComesFromText, IsUsable};
 ghost use Rattle.cnvm_cli.specs.inside.ServeEnds.{MemoryEnds, ServeEnds, ServeFound, ServeMissing};
 ghost use Rattle.cnvm_cli.specs.inside.ServeEnds.{ServeImage, ServeWords, ServeEither};
 ghost use Rattle.cnvm_cli.specs.inside.ServeEnds.{ServeMoved, ServesMoved};
@@ -201,7 +201,7 @@ fn serve_found<
     bad: &mut B,
     steps: &mut Steps<L>,
 ) -> Status
-    requires { IsOfText asked compiled.now }
+    requires { ComesFromText asked compiled.now }
     ensures usage { result ≢ Status.Usage }
     ensures write { result ≡ Status.WriteFault → Rose (K.faults out.old) (K.faults out.new) }
     ensures end { result ≡ Status.Done → IsAtEnd (T.left lines.new) }
@@ -375,7 +375,7 @@ fn serve_either<
     bad: &mut B,
     steps: &mut Steps<L>,
 ) -> Status
-    requires { IsOfText asked compiled.now }
+    requires { ComesFromText asked compiled.now }
     ensures usage { result ≢ Status.Usage }
     ensures write { result ≡ Status.WriteFault → Rose (K.faults out.old) (K.faults out.new) }
     ensures end { result ≡ Status.Done → IsAtEnd (T.left lines.new) }

@@ -5,6 +5,8 @@ ghost use Rattle.std.specs.Io.KnownBytes.{IsAtEnd, Keeps};
 ghost use Rattle.nvm_base.specs.Rose.{Rose};
 ghost use Rattle.pmem.specs.Device as device;
 ghost use Rattle.workers_script.specs.WorkersGrammar.{workers_script_meaning};
+ghost use Rattle.cnvm_cli.specs.WorkersMeant.{run_status};
+ghost use Rattle.cnvm_cli.specs.inside.CrewEnds.{CrewReadAs};
 ghost use Rattle.cnvm_cli.specs.inside.WorkersEnds.{WorkersRanAs, WorkersEnds};
 ghost use Rattle.cnvm_cli.specs.inside.Texts.{ReadIn};
 
@@ -12,7 +14,7 @@ use crate::reading::{read_program, read_text};
 use crate::refused::{Refused, refuse};
 use crate::traps::look_up;
 use crate::world::World;
-use cnvm_compile::Asked;
+use cnvm_compile::{Asked, Compiled};
 use cnvm_script::{SCRIPT_BYTES, ScriptFault};
 use cnvm_session::{Program, Traps};
 use nvm_base::{ReadAllFault, Sink, Source, Steps};
@@ -22,6 +24,38 @@ use std::alloc::Global;
 use std::sync::ledger::Ledger;
 use workers_run::{RunFault, run_workers};
 use workers_script::{WorkersCommand, WorkersScript, read_workers};
+
+/// The program and the commands of several workers that are to be run.
+#[derive(Drop)]
+pub(crate) struct Crew {
+    pub(crate) compiled: Compiled,
+    pub(crate) commands: WorkersScript,
+}
+
+/// Reads the program, and then the script.
+pub(crate) fn read_crew<S: Source, T: Source>(
+    alloc: Global,
+    asked: Asked,
+    program: &mut S,
+    script: &mut T,
+) -> Result<Crew, Refused>
+    ensures told { CrewReadAs result asked (S.left program.old) (T.left script.old) }
+    ensures program_end { OnOk result (IsAtEnd (S.left program.new)) }
+    ensures script_end { OnOk result (IsAtEnd (T.left script.new)) }
+    ensures read { IsErrOf result Refused.ReadFault
+        → Rose (S.faults program.old) (S.faults program.new)
+        ⊎ Rose (T.faults script.old) (T.faults script.new) }
+    ensures usage { IsErrOf result Refused.Usage → ⊥ }
+{
+    let compiled = match read_program(alloc, program, asked) {
+        Ok(compiled) => compiled,
+        Err(why) => return Err(why),
+    };
+    match read_turns(alloc, script) {
+        Ok(commands) => Ok(Crew { compiled, commands }),
+        Err(why) => Err(why),
+    }
+}
 
 /// Reads the program and the script, and runs the script's commands on a new pool of compartments,
 /// one for each worker. Nothing is saved.
@@ -58,23 +92,19 @@ pub(crate) fn run_script<
         (P.device world.new.dev) steps.old steps.new }
     ensures image { Keeps (O.written world.old.image_out) (O.written world.new.image_out) }
 {
-    let compiled = match read_program(alloc, &mut world.program, asked) {
-        Ok(compiled) => compiled,
-        Err(refused) => return refuse(alloc, refused, &mut world.out),
-    };
-    match read_turns(alloc, &mut world.script) {
-        Ok(commands) => {
+    match read_crew(alloc, asked, &mut world.program, &mut world.script) {
+        Ok(crew) => {
             let status = run_turns(
                 alloc,
-                &compiled.program,
+                &crew.compiled.program,
                 count,
-                commands.as_slice(),
+                crew.commands.as_slice(),
                 &mut world.traps,
                 &mut world.out,
                 &mut world.dev,
                 steps,
             );
-            look_up(alloc, &compiled, &mut world.traps);
+            look_up(alloc, &crew.compiled, &mut world.traps);
             status
         }
         Err(refused) => refuse(alloc, refused, &mut world.out),
@@ -133,7 +163,18 @@ fn run_turns<K: Sink, P: Pmem + Drop, L: Ledger>(
     ensures ran { WorkersRanAs program.now count commands.now result (K.written out.old)
         (K.written out.new) (P.device dev.old) (P.device dev.new) steps.old steps.new }
 {
-    match run_workers(alloc, program, count, commands, traps, out, dev, steps) {
+    status_of(run_workers(alloc, program, count, commands, traps, out, dev, steps))
+}
+
+/// The status of a run of workers.
+pub(crate) fn status_of(ran: Result<(), RunFault>) -> Status
+    ensures value { result ≡ run_status ran }
+    ensures read { result ≢ Status.ReadFault }
+    ensures usage { result ≢ Status.Usage }
+    ensures write { result ≡ Status.WriteFault → IsErrOf ran RunFault.Write }
+    ensures device { result ≡ Status.DeviceFault → IsErrOf ran RunFault.Device }
+{
+    match ran {
         Ok(()) => Status::Done,
         Err(RunFault::Device) => Status::DeviceFault,
         Err(RunFault::NoMemory) => Status::NoMemory,

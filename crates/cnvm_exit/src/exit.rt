@@ -133,6 +133,19 @@ fn paths_in(alloc: Global, plan: Plan) -> Paths
             image_out: Text::new(alloc),
             former: Text::new(alloc),
         },
+        Plan::WorkersPool {
+            program_path,
+            script_path,
+            pool_path,
+            ..
+        } => Paths {
+            program: program_path,
+            origin: Origin::File,
+            script: script_path,
+            image_in: pool_path,
+            image_out: Text::new(alloc),
+            former: Text::new(alloc),
+        },
         Plan::Emit { program_path, .. } => program_alone(alloc, program_path),
         Plan::Code { program_path } => program_alone(alloc, program_path),
     }

@@ -83,7 +83,7 @@ fn message<R: Files + Input + Print + AllocGlobal, P: Drop>(
         Status::Program => of_programs(alloc, named, world),
         Status::Script => of_script(alloc, words, named.script, world.script.kept()),
         Status::ReadFault => Ok(Some(of_read(alloc, named, world, pool)?)),
-        Status::WriteFault => Ok(Some(of_write(alloc, named, world)?)),
+        Status::WriteFault => of_write(alloc, named, world),
         Status::DeviceFault => of_device(alloc, words, named, pool),
         Status::PoolBusy => busy(alloc, named.image_in),
         Status::Image => of_refused_image(alloc, words, named, world),
@@ -103,7 +103,7 @@ fn of_device(
         return Ok(Some(message_of(alloc, &told)?));
     }
     match plan_of(alloc, words) {
-        Ok(Plan::RunPool { .. } | Plan::ServePool { .. }) => {
+        Ok(Plan::RunPool { .. } | Plan::ServePool { .. } | Plan::WorkersPool { .. }) => {
             let what = format!(in alloc;
                 "{}: the file refused a write or a sync; the next opening finds what is durable",
                 named.image_in
@@ -171,7 +171,7 @@ fn of_script(
 /// Whether the words ask for workers.
 fn has_workers(alloc: Global, words: &[String]) -> bool {
     match plan_of(alloc, words) {
-        Ok(Plan::Workers { .. }) => true,
+        Ok(Plan::Workers { .. } | Plan::WorkersPool { .. }) => true,
         _ => false,
     }
 }
@@ -227,16 +227,8 @@ fn of_plan<'a>(
         Plan::Run { start_image, .. } => of_run(alloc, named, texts, traps, start_image.is_some()),
         Plan::RunPool { .. } => of_run(alloc, named, texts, traps, true),
         Plan::Serve { .. } | Plan::ServePool { .. } => of_lines(alloc, named, texts, traps),
-        Plan::Workers { .. } => {
-            let run = WorkersTexts {
-                program_path: named.program,
-                script_path: named.script,
-                script: texts.script,
-                answers: texts.answers,
-                ended: line_of(traps.ended),
-            };
-            workers_answers_note(alloc, run)
-        }
+        Plan::Workers { .. } => of_workers(alloc, named, texts, traps, false),
+        Plan::WorkersPool { .. } => of_workers(alloc, named, texts, traps, true),
         Plan::Storm { .. } => {
             let stormed = Stormed {
                 round: traps.round,
@@ -250,6 +242,25 @@ fn of_plan<'a>(
         }
         Plan::List { .. } | Plan::Why { .. } | Plan::Emit { .. } | Plan::Code { .. } => Ok(None),
     }
+}
+
+/// The message of the answers to workers that are traps or refusals.
+fn of_workers<'a>(
+    alloc: Global,
+    named: Named<'a>,
+    texts: Texts<'a>,
+    traps: &Traps,
+    opened: bool,
+) -> Result<Option<String>, AllocError> {
+    let run = WorkersTexts {
+        program_path: named.program,
+        script_path: named.script,
+        script: texts.script,
+        answers: texts.answers,
+        opened,
+        ended: line_of(traps.ended),
+    };
+    workers_answers_note(alloc, run)
 }
 
 /// The line of a trap.
@@ -333,18 +344,19 @@ fn of_read<R: Files + Input + Print + AllocGlobal, P: Drop>(
     message_of(alloc, &told)
 }
 
+/// The message of standard output or of an image that couldn't be written. That the reader is gone
+/// isn't told: `| head` takes what it wants.
 fn of_write<R: Files + Input + Print + AllocGlobal, P: Drop>(
     alloc: Global,
     named: Named<'_>,
     world: &FileWorld<'_, R, P>,
-) -> Result<String, AllocError> {
-    let out = world.out.sink().reason();
-    let told = if out.is_some() {
-        unwritten(alloc, out)?
-    } else {
-        unsaved(alloc, named.image_out, world.image_out.reason())?
+) -> Result<Option<String>, AllocError> {
+    let told = match world.out.sink().reason() {
+        Some(Reason::Closed) => return Ok(None),
+        Some(reason) => unwritten(alloc, Some(reason))?,
+        None => unsaved(alloc, named.image_out, world.image_out.reason())?,
     };
-    message_of(alloc, &told)
+    Ok(Some(message_of(alloc, &told)?))
 }
 
 /// The message of an image, from the line that was written of it.
@@ -369,6 +381,9 @@ fn of_refused_image<R: Files + Input + Print + AllocGlobal, P: Drop>(
         )?;
         return plain(alloc, what.as_str());
     }
+    if let Some(what) = other_count(alloc, words, named.image_in, line.as_str(), image)? {
+        return plain(alloc, what.as_str());
+    }
     let refusal = refusal_of(alloc, words, line.as_str(), image);
     let is_image = image.starts_with(b"CNVMPOOL");
     let found = image_digest(alloc, image)?;
@@ -379,6 +394,41 @@ fn of_refused_image<R: Files + Input + Print + AllocGlobal, P: Drop>(
     };
     let told = of_image(alloc, named.image_in, refusal, is_image, digests)?;
     Ok(Some(message_of(alloc, &told)?))
+}
+
+/// What is wrong with a file of another number of pools than there are workers, if that was written
+/// of it: the first pool that is missing is too short, or the last one too long.
+fn other_count(
+    alloc: Global,
+    words: &[String],
+    path: &str,
+    line: &str,
+    image: &[u8],
+) -> Result<Option<String>, AllocError> {
+    let Ok(Plan::WorkersPool { workers, .. }) = plan_of(alloc, words) else {
+        return Ok(None);
+    };
+    let mut parts = line.split_whitespace();
+    parts.next();
+    let kind = parts.next().unwrap_or("");
+    let found = number(parts.next());
+    let wanted = number(parts.next()).unsigned_abs();
+    let held = image.len() as u64;
+    if kind == "short" && found == 0 && held > 0 && wanted > 0 {
+        let pools = held / wanted;
+        let noun = if pools == 1 { "pool" } else { "pools" };
+        let what = format!(in alloc;
+            "{path}: holds {pools} {noun}, and `--workers {workers}` asks for more"
+        )?;
+        return Ok(Some(what));
+    }
+    if kind == "sizes" && held == workers.saturating_mul(wanted).saturating_add(1) {
+        let what = format!(in alloc;
+            "{path}: holds more pools than `--workers {workers}` asks for"
+        )?;
+        return Ok(Some(what));
+    }
+    Ok(None)
 }
 
 /// The struct that the last line names, if that is `image shape NAME`.
@@ -400,13 +450,23 @@ fn refusal_of(alloc: Global, words: &[String], line: &str, image: &[u8]) -> Imag
     let found = number(parts.next());
     let wanted = number(parts.next());
     if kind == "short" {
-        return ImageRefusal::Short(found.unsigned_abs(), wanted.unsigned_abs());
+        return short(
+            alloc,
+            words,
+            image,
+            found.unsigned_abs(),
+            wanted.unsigned_abs(),
+        );
     }
     if kind == "version" {
         return ImageRefusal::Version(found, wanted);
     }
     if kind == "sizes" {
-        return ImageRefusal::Sizes(option_of(alloc, words, image), found, wanted);
+        let option = match other_size(alloc, words, image) {
+            Some(size) => Some(size.option),
+            None => None,
+        };
+        return ImageRefusal::Sizes(option, found, wanted);
     }
     if kind == "digest" {
         return ImageRefusal::Digest;
@@ -424,29 +484,76 @@ fn number(word: Option<&str>) -> i64 {
     }
 }
 
-/// The option that asks for the first size in which the image differs.
-fn option_of(alloc: Global, words: &[String], image: &[u8]) -> Option<&'static str> {
-    let Ok(
+/// The refusal of an image that is too short: by the first size in which it differs, if it begins
+/// as an image does.
+fn short(alloc: Global, words: &[String], image: &[u8], found: u64, needed: u64) -> ImageRefusal {
+    if image.starts_with(b"CNVMPOOL") {
+        if let Some(size) = other_size(alloc, words, image) {
+            let held = size.held.cast_signed();
+            return ImageRefusal::Sizes(Some(size.option), held, size.asked.cast_signed());
+        }
+    }
+    ImageRefusal::Short(found, needed)
+}
+
+/// A size that an option asks for, and another one that an image has.
+#[derive(Clone, Copy)]
+struct OtherSize {
+    option: &'static str,
+    held: u64,
+    asked: u64,
+}
+
+/// The first size in which the image differs.
+fn other_size(alloc: Global, words: &[String], image: &[u8]) -> Option<OtherSize> {
+    let (slots, records, ticks) = sizes_asked(alloc, words)?;
+    let sizes = [
+        (2usize, "--slots", slots),
+        (3, "--log", records),
+        (5, "--ticks", ticks),
+    ];
+    for (place, option, asked) in sizes {
+        let held = word_at(image, place);
+        if held != asked && held > 0 {
+            return Some(OtherSize {
+                option,
+                held,
+                asked,
+            });
+        }
+    }
+    None
+}
+
+/// The slots, the records and the ticks of a command that opens a pool.
+fn sizes_asked(alloc: Global, words: &[String]) -> Option<(u64, u64, u64)> {
+    match plan_of(alloc, words).ok()? {
         Plan::Run {
             slots,
             records,
             ticks,
             ..
-        },
-    ) = plan_of(alloc, words)
-    else {
-        return None;
-    };
-    if word_at(image, 2) != slots {
-        return Some("--slots");
+        } => Some((slots, records, ticks)),
+        Plan::RunPool {
+            slots,
+            records,
+            ticks,
+            ..
+        } => Some((slots, records, ticks)),
+        Plan::ServePool {
+            slots,
+            records,
+            ticks,
+            ..
+        } => Some((slots, records, ticks)),
+        Plan::WorkersPool {
+            slots,
+            records,
+            ticks,
+            ..
+        } => Some((slots, records, ticks)),
+        _ => None,
     }
-    if word_at(image, 3) != records {
-        return Some("--log");
-    }
-    if word_at(image, 5) != ticks && word_at(image, 5) > 0 {
-        return Some("--ticks");
-    }
-    None
 }
 
 /// A word of an image, its lowest byte first; 0 past its end.

@@ -79,6 +79,12 @@ fn refusal_note(answer: &[u8]) -> &'static str {
     if answer.starts_with(b"refused pick") {
         return "a line or a version that it names isn't there";
     }
+    if answer.starts_with(b"refused worker") {
+        return "there are as many workers as `--workers` says, counted from 0";
+    }
+    if answer.starts_with(b"refused busy") {
+        return "the worker's call hasn't ended yet";
+    }
     ""
 }
 
@@ -112,20 +118,6 @@ fn refused_line(alloc: Global, path: &str, first: u64, refused: u64) -> Result<S
         return format!(in alloc; "cnvm: {path}:{first}: a command was refused\n");
     }
     format!(in alloc; "cnvm: {path}:{first}: {refused} commands were refused, this one first\n")
-}
-
-/// Adds the number of refusals of a script of workers.
-pub(crate) fn push_refusals(
-    alloc: Global,
-    message: &mut String,
-    script: &str,
-    refused: u64,
-) -> Result<(), AllocError> {
-    if refused == 0 {
-        return Ok(());
-    }
-    let line = format!(in alloc; "cnvm: {script}: refusals among the answers: {refused}\n")?;
-    message.push_str(line.as_str())
 }
 
 pub(crate) fn unless_empty(message: String) -> Option<String> {

@@ -1,7 +1,7 @@
 //! The message of the answers to a script of workers.
 
 use crate::lines::{after_slots, first_line, trap_end, worker_answer};
-use crate::summary::{push_message, push_refusals, unless_empty, with_line};
+use crate::summary::{Refusals, push_message, push_refused, unless_empty, with_line};
 use cnvm_script::{is_word, next_line};
 use nvm_base::Text;
 use plain_notes::{Told, of_worker_trap};
@@ -15,6 +15,8 @@ pub struct WorkersTexts<'a> {
     pub script_path: &'a str,
     pub script: &'a [u8],
     pub answers: &'a [u8],
+    /// Whether compartments were opened or made, so that the answers of that come first.
+    pub opened: bool,
     /// The line of the program of the first trap.
     pub ended: Option<u64>,
 }
@@ -26,14 +28,15 @@ struct Worker {
     line: u64,
 }
 
-/// What the answers tell: the first trap, how many refusals there are, and whether the workers are
-/// down.
+/// What the answers tell: the first trap, the refusals, and whether the workers are down; and the
+/// line of the command at hand.
 #[derive(Drop)]
 struct Found {
     trap: Option<Told>,
-    refused: u64,
+    refusals: Refusals,
     workers: Vec<Worker>,
     down: bool,
+    number: u64,
 }
 
 /// The most workers that a line can name.
@@ -46,24 +49,40 @@ pub fn workers_answers_note(
 ) -> Result<Option<String>, AllocError> {
     let mut found = Found {
         trap: None,
-        refused: 0,
+        refusals: Refusals::none(),
         workers: Vec::new(alloc),
         down: false,
+        number: 0,
     };
-    let mut left = run.answers;
+    let mut left = after_opening(alloc, &mut found, run)?;
     let mut rest = run.script;
-    let mut number = 0u64;
     'lines: while !rest.is_empty() {
         let (line, others) = next_line(rest);
-        number = number.saturating_add(1);
+        found.number = found.number.saturating_add(1);
         rest = others;
         let Ok(Some(command)) = read_workers_line(alloc, line) else {
             continue 'lines;
         };
-        left = after_command(alloc, &mut found, run, number, command, left)?;
+        left = after_command(alloc, &mut found, run, command, left)?;
     }
     all_answers(alloc, &mut found, run, left)?;
     message(alloc, run, found)
+}
+
+/// The answers after those of the opening: `created`, or one for each compartment.
+fn after_opening<'a>(
+    alloc: Global,
+    found: &mut Found,
+    run: WorkersTexts<'a>,
+) -> Result<&'a [u8], AllocError> {
+    if !run.opened {
+        return Ok(run.answers);
+    }
+    let (line, others) = first_line(run.answers);
+    if is_word(line, "created") {
+        return Ok(others);
+    }
+    after_turns(alloc, found, run, run.answers)
 }
 
 /// Takes the answers that are left.
@@ -87,12 +106,12 @@ fn message(
     run: WorkersTexts<'_>,
     found: Found,
 ) -> Result<Option<String>, AllocError> {
-    let Found { trap, refused, .. } = found;
+    let Found { trap, refusals, .. } = found;
     let mut message = String::new(alloc);
     if let Some(trap) = trap {
         push_message(alloc, &mut message, &trap)?;
     }
-    push_refusals(alloc, &mut message, run.script_path, refused)?;
+    push_refused(alloc, &mut message, run.script_path, refusals)?;
     Ok(unless_empty(message))
 }
 
@@ -101,13 +120,12 @@ fn after_command<'a>(
     alloc: Global,
     found: &mut Found,
     run: WorkersTexts<'_>,
-    number: u64,
     command: WorkersCommand,
     left: &'a [u8],
 ) -> Result<&'a [u8], AllocError> {
     let lines = lines_of(alloc, &command, left)?;
     if let Some(begun) = begun_by(command) {
-        return after_start(alloc, found, run, number, begun, left);
+        return after_start(alloc, found, run, begun, left);
     }
     match lines {
         Lines::None => Ok(left),
@@ -193,7 +211,6 @@ fn after_start<'a>(
     alloc: Global,
     found: &mut Found,
     run: WorkersTexts<'_>,
-    number: u64,
     begun: Begun,
     left: &'a [u8],
 ) -> Result<&'a [u8], AllocError> {
@@ -201,7 +218,7 @@ fn after_start<'a>(
     let (line, others) = first_line(left);
     let started = format!(in alloc; "started {worker}")?;
     if line == started.as_str().as_bytes() {
-        found.start(alloc, worker, number, called)?;
+        found.start(alloc, worker, called)?;
         return Ok(others);
     }
     if line.starts_with(b"refused ") || is_word(line, "no memory") {
@@ -254,13 +271,7 @@ fn is_want(line: &[u8]) -> bool {
 
 impl Found {
     /// The worker begins a call.
-    fn start(
-        &mut self,
-        alloc: Global,
-        worker: u64,
-        line: u64,
-        called: Text,
-    ) -> Result<(), AllocError> {
+    fn start(&mut self, alloc: Global, worker: u64, called: Text) -> Result<(), AllocError> {
         for _ in 0..WORKERS {
             if self.workers.len() as u64 <= worker {
                 self.workers.push(Worker {
@@ -271,7 +282,7 @@ impl Found {
         }
         if let Some(own) = self.workers.get_mut(worker as usize) {
             own.called = called;
-            own.line = line;
+            own.line = self.number;
         }
         Ok(())
     }
@@ -284,9 +295,7 @@ impl Found {
         line: &[u8],
     ) -> Result<(), AllocError> {
         let (worker, answer) = worker_answer(line);
-        if answer.starts_with(b"refused ") {
-            self.refused = self.refused.saturating_add(1);
-        }
+        self.refusals = self.refusals.after(self.number, answer);
         if is_want(answer) || answer.starts_with(b"stopped ") {
             self.down = true;
         }

@@ -23,7 +23,7 @@ pub fn rolls_back(program: &Program, tx: u64) -> bool
 }
 
 /// What becomes of a trap: a marked transaction is rolled back, another one ends the pool.
-pub(crate) fn policy_of(marked: bool) -> Policy
+pub fn policy_of(marked: bool) -> Policy
     ensures { result ≡ policy_of marked }
 {
     if marked {
@@ -34,7 +34,7 @@ pub(crate) fn policy_of(marked: bool) -> Policy
 }
 
 /// Whether a pool is sealed with a marked transaction.
-pub(crate) fn owes_marked<P: PmemWork>(program: &Program, dev: &P) -> bool
+pub fn owes_marked<P: PmemWork>(program: &Program, dev: &P) -> bool
     requires lines { 6 ≤ (P.device dev.now).lines }
     requires on { (P.device dev.now).on ≡ true }
     ensures value { result ≡ owes_marked program.now (P.device dev.now) }

@@ -1,7 +1,7 @@
-//! Opens a pool from an image.
+//! Opens a pool, or several on one device, from an image.
 
-ghost use Rattle.std.specs.Prelude.{◌≡◌, ◌≤◌, ◌+◌, ◌*◌, ◌<◌, take, drop, length, OnOk, IfErr};
-ghost use Rattle.std.specs.Prelude.{IsErrOf};
+ghost use Rattle.std.specs.Prelude.{◌≡◌, ◌≤◌, ◌+◌, ◌*◌, ◌^◌, ◌<◌, take, drop, length, OnOk};
+ghost use Rattle.std.specs.Prelude.{IfErr, IsErrOf};
 ghost use Rattle.std.specs.List.{list_any};
 ghost use Rattle.pmem.specs.Device.{FaultsRose, blanked};
 ghost use Rattle.pmem.specs.Played.{PlaysAll, PlaysPart};
@@ -125,9 +125,32 @@ fn play_opening<P: PmemWork>(dev: &mut P, words: &[i64], lines: u64) -> Result<(
     fence(dev)
 }
 
-/// Opens a pool of these sizes on blank lines, with the words of an image. An image with another
-/// number of words than the pool is answered as `NoMemory` and changes nothing; reading an image
-/// never gives one.
+/// Writes the words of an image on so many blank lines. An image with another number of words is
+/// answered as `NoMemory` and changes nothing; reading an image never gives one.
+pub fn open_lines<P: Pmem>(lines: u64, words: &[i64], dev: &mut P) -> Result<(), StartFault>
+    requires small { lines ≤ 2 ^ 22 }
+    ensures done { OnOk result (PlaysAll (blanked lines (P.device dev.old))
+        (opening_events lines words.now) (P.device dev.new)) }
+    ensures whole { OnOk result (length words.now ≡ 8 * lines) }
+    ensures lines { OnOk result ((P.device dev.new).lines ≡ lines) }
+    ensures refused { IfErr result (λ why. IsUnmade why lines (opening_events lines words.now)
+        (P.device dev.old) (P.device dev.new)) }
+    ensures failed { IsErrOf result StartFault.Failed
+        → FaultsRose (P.device dev.old).faults (P.device dev.new).faults }
+{
+    if words.len() as u64 != 8 * lines {
+        return Err(StartFault::NoMemory);
+    }
+    if let Err(_) = dev.blank(lines) {
+        return Err(StartFault::NoMemory);
+    }
+    match play_opening(dev, words, lines) {
+        Ok(()) => Ok(()),
+        Err(refusal) => Err(StartFault::of(refusal)),
+    }
+}
+
+/// Opens a pool of these sizes on blank lines, with the words of an image, as `open_lines` does.
 pub fn open_pool<P: Pmem>(sizes: &Sizes, words: &[i64], dev: &mut P) -> Result<(), StartFault>
     ensures done { OnOk result (PlaysAll
         (blanked (sizes_of.pool_lines sizes.now) (P.device dev.old))
@@ -139,15 +162,5 @@ pub fn open_pool<P: Pmem>(sizes: &Sizes, words: &[i64], dev: &mut P) -> Result<(
     ensures failed { IsErrOf result StartFault.Failed
         → FaultsRose (P.device dev.old).faults (P.device dev.new).faults }
 {
-    let lines = pool_lines(sizes);
-    if words.len() as u64 != 8 * lines {
-        return Err(StartFault::NoMemory);
-    }
-    if let Err(_) = dev.blank(lines) {
-        return Err(StartFault::NoMemory);
-    }
-    match play_opening(dev, words, lines) {
-        Ok(()) => Ok(()),
-        Err(refusal) => Err(StartFault::of(refusal)),
-    }
+    open_lines(pool_lines(sizes), words, dev)
 }

@@ -59,7 +59,8 @@ impl Traps {
         true
     }
 
-    fn undoes(&mut self, kind: TrapKind, stop: Option<Stop>) {
+    /// A trap that was rolled back.
+    pub fn undoes(&mut self, kind: TrapKind, stop: Option<Stop>) {
         if self.undone.is_none() {
             self.undone = Some(trap_at(kind, stop));
         }

@@ -54,9 +54,11 @@ abbrev pub workers_app : App
 workers_app =
     sized
     (with_rule
+    (with_rule
     (with_rule (with_rule (new_app (codes "workers")) (place_rule (codes "program")))
     (place_rule (codes "script")))
     (option_rule (codes "workers")))
+    (option_rule (codes "pool")))
 
 abbrev pub serve_app : App
 serve_app =

@@ -12,7 +12,7 @@ use Rattle.cnvm_words.specs.Prefix.{asked_prefix}
 use Rattle.cnvm_words.specs.declared.plan.Plan.{Plan}
 use Rattle.cnvm_words.specs.declared.plan.Plan.TheVariants.{Run, List as Listing, Storm, Why}
 use Rattle.cnvm_words.specs.declared.plan.Plan.TheVariants.{Workers, Emit, RunPool, Serve}
-use Rattle.cnvm_words.specs.declared.plan.Plan.TheVariants.{ServePool, Code}
+use Rattle.cnvm_words.specs.declared.plan.Plan.TheVariants.{ServePool, WorkersPool, Code}
 
 abbrev pub in_limits : (least most n : ℕ) → Option ℕ
 in_limits least most n = if nat_le least n && nat_le n most then Some n else None
@@ -70,10 +70,19 @@ storm_plan rows =
 abbrev pub why_plan : List Row → Option Plan
 why_plan rows = option_map (λ program. Why program) (first_of (codes "program") rows)
 
+-- the compartments are those of a file, or are in memory
+abbrev pub workers_on : (program script : List ℕ) → (workers slots records ticks : ℕ)
+    → (pool : Option (List ℕ)) → Plan
+workers_on program script workers slots records ticks None =
+    Workers program script workers slots records ticks
+workers_on program script workers slots records ticks (Some pool) =
+    WorkersPool program script workers slots records ticks pool
+
 abbrev pub workers_plan : List Row → Option Plan
 workers_plan rows =
     option_and_then (λ program. option_and_then (λ script. option_and_then (λ workers. option_map
-    (λ pool. Workers program script workers pool.0 pool.1 pool.2)
+    (λ sizes. workers_on program script workers sizes.0 sizes.1 sizes.2
+    (first_of (codes "pool") rows))
     (asked_pool rows))
     (number_or 2 1 8 (first_of (codes "workers") rows)))
     (first_of (codes "script") rows))
@@ -132,4 +141,6 @@ plan_of words =
 -- a plan of workers has from 1 to 8
 abbrev pub HasWorkers : Plan → Type 0
 HasWorkers (Workers program script workers slots records ticks) = (1 ≤ workers) × (workers ≤ 8)
+HasWorkers (WorkersPool program script workers slots records ticks pool) =
+    (1 ≤ workers) × (workers ≤ 8)
 HasWorkers _ = Unit {0}

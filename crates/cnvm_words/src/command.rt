@@ -119,6 +119,7 @@ fn workers_command<'a>(alloc: Global) -> Result<Command<'a>, AllocError>
     let command = Command::new(alloc, "workers").arg(place_arg(alloc, "program"))?;
     let command = command.arg(place_arg(alloc, "script"))?;
     let command = command.arg(option_arg(alloc, "workers"))?;
+    let command = command.arg(option_arg(alloc, "pool"))?;
     with_sizes(alloc, command)
 }
 

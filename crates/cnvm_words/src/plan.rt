@@ -70,6 +70,16 @@ pub enum Plan {
         records: u64,
         ticks: u64,
     },
+    /// Runs a script of several workers on the compartments of a file. `workers` is from 1 to 8.
+    WorkersPool {
+        program_path: Text,
+        script_path: Text,
+        workers: u64,
+        slots: u64,
+        records: u64,
+        ticks: u64,
+        pool_path: Text,
+    },
     /// Prints the program's transactions as C, or the header of that file. All names in it begin
     /// with the prefix, which is a name.
     Emit {

@@ -222,13 +222,24 @@ fn workers_plan(alloc: Global, matches: &ArgMatches<'_>) -> Result<Plan, WordsFa
     let Some((slots, records, ticks)) = pool_of(matches) else {
         return Err(WordsFault::Usage);
     };
-    Ok(Plan::Workers {
+    let Some(pool_path) = image_at(alloc, matches, "pool")? else {
+        return Ok(Plan::Workers {
+            program_path,
+            script_path,
+            workers,
+            slots,
+            records,
+            ticks,
+        });
+    };
+    Ok(Plan::WorkersPool {
         program_path,
         script_path,
         workers,
         slots,
         records,
         ticks,
+        pool_path,
     })
 }
 

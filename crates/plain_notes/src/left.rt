@@ -161,6 +161,9 @@ fn by_word(reserved: &[(&str, &'static str)], here: &[u8]) -> Option<&'static st
 /// A mark that has another place in C.
 fn by_mark(near: &Spelled<'_>, value: bool) -> Option<&'static str> {
     let here = near.here();
+    if is(near.before(1), "root") && near.within() == Within::Body {
+        return Some(by_bare_root(here));
+    }
     if is(here, "*") && (value || !is_number(near.before(1))) {
         return by_star(near);
     }
@@ -185,9 +188,6 @@ fn by_mark(near: &Spelled<'_>, value: bool) -> Option<&'static str> {
     if is(here, ".") {
         return by_dot(near);
     }
-    if is(here, "->") && is(near.before(1), "root") {
-        return Some("the root is no pointer: write `root.f`");
-    }
     if is(here, ":") && is_one(near.before(2), &[";", "{", "}"]) {
         return Some(LABEL_NOTE);
     }
@@ -195,6 +195,15 @@ fn by_mark(near: &Spelled<'_>, value: bool) -> Option<&'static str> {
         return Some(VALUE_NOTE);
     }
     None
+}
+
+/// What stands after a `root` in a body in place of a `.`.
+fn by_bare_root(here: &[u8]) -> &'static str {
+    if is(here, "->") {
+        "the root is no pointer: write `root.f`"
+    } else {
+        "the root is no value and no pointer: write `root.f`"
+    }
 }
 
 const STEP_NOTE: &str =
@@ -308,11 +317,17 @@ fn by_dot(near: &Spelled<'_>) -> Option<&'static str> {
     if is_number(last) {
         return Some("numbers are whole: write a number of smaller units");
     }
+    if is(last, "]") {
+        return Some(ELEMENT_NOTE);
+    }
     if near.within() == Within::Parameters {
         return Some("a function has a fixed number of parameters");
     }
     Some("an object is reached by a pointer: write `p->f`; only the root has `root.f`")
 }
+
+const ELEMENT_NOTE: &str =
+    "`p[0].f` is written `p->f`; of an element that is a pointer, write `t[i]->f`";
 
 /// What the place of the token tells.
 fn by_place(near: &Spelled<'_>) -> Option<&'static str> {
@@ -341,7 +356,13 @@ fn at_top(near: &Spelled<'_>) -> Option<&'static str> {
     let here = near.here();
     let last = near.before(1);
     if is(last, "tx") && !is_number_type(here) {
-        return Some(MARK_NOTE);
+        return by_tx(near);
+    }
+    if is(last, "abort") && is_name(here) && is(near.after(1), "(") {
+        return Some("the type is missing: write `tx abort int64_t f() { .. }`");
+    }
+    if is(here, "tx") && is_one(last, &["int64_t", "void"]) {
+        return Some("`tx` stands before the type: write `tx int64_t f() { .. }`");
     }
     if is(here, "abort") && is(last, "abort") {
         return Some("one `abort` is enough");
@@ -376,6 +397,14 @@ fn at_top(near: &Spelled<'_>) -> Option<&'static str> {
         return Some("there are no global variables but the root: write a field of its struct");
     }
     None
+}
+
+/// What is wrong after a `tx`.
+fn by_tx(near: &Spelled<'_>) -> Option<&'static str> {
+    if is_name(near.here()) && is(near.after(1), "(") {
+        return Some("the type is missing: write `tx int64_t f() { .. }`");
+    }
+    Some(MARK_NOTE)
 }
 
 const MARK_NOTE: &str =

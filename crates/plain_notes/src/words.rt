@@ -102,7 +102,7 @@ const WHY: Shape = Shape {
 const WORKERS: Shape = Shape {
     name: "workers",
     places: &["PROGRAM", "SCRIPT"],
-    options: &[b"--workers", b"--slots", b"--log", b"--ticks"],
+    options: &[b"--workers", b"--pool", b"--slots", b"--log", b"--ticks"],
 };
 
 const SERVE: Shape = Shape {
@@ -131,7 +131,7 @@ const COMMANDS: [&[u8]; 8] = [
 ];
 
 /// The commands and the options with their defaults.
-const HELP: [&str; 26] = [
+const HELP: [&str; 27] = [
     "cnvm run PROGRAM SCRIPT          runs the script's calls on a new pool",
     "    SCRIPT                       a file, or - for standard input",
     "    --open IMAGE                 runs them on the pool of a saved image",
@@ -145,6 +145,7 @@ const HELP: [&str; 26] = [
     "cnvm why PROGRAM                 tells why each logged store is logged",
     "cnvm workers PROGRAM SCRIPT      runs the script's calls of several workers",
     "    --workers W                  how many, from 1 to 8; without it 2",
+    "    --pool FILE                  keeps their pools in a file; without it in memory",
     "cnvm serve PROGRAM               answers each line of standard input before the next",
     "    --pool FILE                  keeps the pool in a file; without it in memory",
     "    --from OLD                   moves that pool from the program's former text",

@@ -1,5 +1,6 @@
 -- A compartment of a device: n lines from line f on, as a memory and a device of their own.
-use Rattle.std.specs.Prelude.{ℕ, ◌+◌, ◌*◌, ◌<◌, ◌≤◌, ◌≡◌, ◌⊎◌, Bool, cond, nat_lt, map}
+use Rattle.std.specs.Prelude.{ℕ, ◌+◌, ◌*◌, ◌<◌, ◌≤◌, ◌≡◌, ◌⊎◌, Bool, cond, nat_lt, map, List, ℤ}
+use Rattle.std.specs.Prelude.{take, drop}
 use Rattle.cache_model.specs.Event.{CacheEvent, Store, Flush, Fence}
 use Rattle.cache_model.specs.Cache.{Words, Line, Cache, blank_line}
 use Rattle.cache_model.specs.Play.{fence_line}
@@ -69,3 +70,7 @@ pub record Aside (f n : ℕ) (d b : Device) : Type 0 where
 -- the first line of a worker's compartment
 abbrev pub first_line : Sizes → ℕ → ℕ
 first_line s worker = pool_lines s * worker
+
+-- the words of a worker's compartment, of those of all compartments
+abbrev pub words_within : Sizes → (worker : ℕ) → List ℤ → List ℤ
+words_within s worker words = take (8 * pool_lines s) (drop (8 * first_line s worker) words)

@@ -3,7 +3,7 @@
 ghost use Rattle.std.specs.Prelude.{◌≡◌, ◌+◌, ◌≤◌, ◌<◌, true, false};
 ghost use Rattle.pool_layout.specs.Sizes.{pool_lines};
 ghost use Rattle.pmem.specs.declared.answer.Phase.TheVariants as at_phase;
-ghost use Rattle.pm_machine.specs.declared.records.Policy.TheVariants.{EndPool};
+ghost use Rattle.tx_run.specs.Due.{most_steps};
 ghost use Rattle.recovery.specs.Recovered.{IsRecovered};
 ghost use Rattle.pool_workers.specs.Compartment.{first_line};
 ghost use Rattle.pool_workers.specs.Task.{Turned, IsTask, IsUncut, IsUncutOr, IsGoing, ticks_of};
@@ -104,12 +104,14 @@ pub(crate) fn turn_task<P: Pmem, L: Ledger>(
     answer
 }
 
-/// The recovery of a worker's compartment. On a device that is off nothing has changed.
+/// The recovery of a worker's compartment, by the policy of its owed transaction. On a device that
+/// is off nothing has changed.
 pub(crate) fn recover_on<P: Pmem + Drop, L: Ledger, O: Origin>(
     alloc: Global,
     spare: &mut Spare,
     image: &Image,
     worker: u32,
+    policy: Policy,
     dev: &mut P,
     steps: &mut Steps<L>,
 ) -> RecoverAnswer
@@ -118,20 +120,21 @@ pub(crate) fn recover_on<P: Pmem + Drop, L: Ledger, O: Origin>(
     requires lines { O.lines ≡ pool_lines image.now.parts.sizes }
     requires whole { O.whole ≡ P.device dev.old }
     requires inside { HasCompartment image.now worker (P.device dev.old) }
-    ensures recovered { IsRecovered result EndPool image.now
+    ensures recovered { IsRecovered result policy image.now
         (compartment image.now worker (P.device dev.old))
         (compartment image.now worker (P.device dev.new)) steps.old steps.new }
     ensures off { (P.device dev.old).on ≡ false → result ≡ RecoverAnswer.Off at_phase.Unsealed }
     ensures same { (P.device dev.old).on ≡ false → P.device dev.new ≡ P.device dev.old }
     ensures still { (P.device dev.old).on ≡ false → steps.new ≡ steps.old }
-    ensures most { steps.new ≤ steps.old + image.now.parts.sizes.records + image.now.parts.most }
+    ensures most { steps.new
+        ≤ steps.old + image.now.parts.sizes.records + most_steps policy image.now }
     ensures aside { StaysAside image.now worker (P.device dev.old) (P.device dev.new) }
 {
     let Some(_) = dev.load(LAST) else {
         return RecoverAnswer::Off(Phase::Unsealed);
     };
     let mut window: Window<P, O> = Window::new(dev.take(), image.sizes(), worker);
-    let answer = recover_with(alloc, spare, image, Policy::EndPool, &mut window, steps);
+    let answer = recover_with(alloc, spare, image, policy, &mut window, steps);
     *dev = window.into_device();
     answer
 }

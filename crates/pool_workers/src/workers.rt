@@ -7,7 +7,7 @@ ghost use Rattle.pmem.specs.Played.{PlaysAll};
 ghost use Rattle.pool_layout.specs.Sizes.{pool_lines};
 ghost use Rattle.pool_map.specs.declared.trap.TrapKind.{TrapKind};
 ghost use Rattle.pmem.specs.declared.answer.Phase.TheVariants as at_phase;
-ghost use Rattle.pm_machine.specs.declared.records.Policy.TheVariants.{EndPool};
+ghost use Rattle.tx_run.specs.Due.{most_steps};
 ghost use Rattle.tx_run.specs.declared.standing.Standing.TheVariants as stands;
 ghost use Rattle.recovery.specs.Recovered.{IsRecovered};
 ghost use Rattle.pool_workers.specs.declared.answer.BeginAnswer.TheVariants as begins;
@@ -118,6 +118,19 @@ impl Workers {
         }
     }
 
+    /// `count` workers without a transaction, for compartments that lie on a device.
+    pub fn idle(alloc: Global, count: u32) -> Result<Workers, AllocError>
+        requires last { count ≤ 8 }
+        ensures idle { IfOk result (λ w. w ≡ replicate count None) }
+    {
+        let tasks = idle(alloc, count)?;
+        Ok(Workers {
+            alloc,
+            tasks,
+            stops: [None; 8],
+        })
+    }
+
     /// Creates `count` pools on blank lines, for the program with this digest. No worker has a
     /// transaction. After a fault the events before it are done; `Failed` is answered only if the
     /// device's count of faults rose.
@@ -141,15 +154,11 @@ impl Workers {
         ensures failed { IsErrOf result MakeFault.Failed →
             FaultsRose (P.device dev.old).faults (P.device dev.new).faults }
     {
-        let Ok(tasks) = idle(alloc, count) else {
+        let Ok(workers) = Workers::idle(alloc, count) else {
             return Err(MakeFault::NoMemory);
         };
         match create_pools(image.sizes(), &digest, count, dev) {
-            Ok(()) => Ok(Workers {
-                alloc,
-                tasks,
-                stops: [None; 8],
-            }),
+            Ok(()) => Ok(workers),
             Err(fault) => Err(fault),
         }
     }
@@ -209,27 +218,29 @@ impl Workers {
         answer
     }
 
-    /// Recovers a worker's compartment, with the answers of `recover`. It first drops the worker's
-    /// transaction, whatever the answer is then. On a device that is off no line has changed.
+    /// Recovers a worker's compartment, with the answers of `recover`, by the policy of the
+    /// transaction that it owes. It first drops the worker's transaction, whatever the answer is
+    /// then. On a device that is off no line has changed.
     pub fn recover_one<P: Pmem + Drop, L: Ledger>(
         &mut self,
         image: &Image,
         worker: u32,
+        policy: Policy,
         dev: &mut P,
         steps: &mut Steps<L>,
     ) -> RecoverAnswer
         requires worker { worker < length self.old }
         requires tasks { AreTasks image.now self.old }
         requires lines { HasCompartments image.now self.old (P.device dev.old) }
-        ensures recovered { IsRecovered result EndPool image.now
+        ensures recovered { IsRecovered result policy image.now
             (compartment image.now worker (P.device dev.old))
             (compartment image.now worker (P.device dev.new)) steps.old steps.new }
         ensures off { (P.device dev.old).on ≡ false →
             (result ≡ RecoverAnswer.Off at_phase.Unsealed)
             × (P.device dev.new ≡ P.device dev.old) × (steps.new ≡ steps.old) }
         ensures dropped { task_at self.new worker ≡ None }
-        ensures most { steps.new ≤
-            steps.old + image.now.parts.sizes.records + image.now.parts.most }
+        ensures most { steps.new
+            ≤ steps.old + image.now.parts.sizes.records + most_steps policy image.now }
         ensures others { OtherTasksStay worker self.old self.new }
         ensures count { length self.new ≡ length self.old }
         ensures tasks { AreTasks image.now self.new }
@@ -238,7 +249,9 @@ impl Workers {
     {
         self.drop_task(worker);
         let mut spare = Spare::new();
-        let answer = recover_on::<P, L, Brand>(self.alloc, &mut spare, image, worker, dev, steps);
+        let answer = recover_on::<P, L, Brand>(
+            self.alloc, &mut spare, image, worker, policy, dev, steps,
+        );
         note(&mut self.stops, worker, spare.stop());
         answer
     }

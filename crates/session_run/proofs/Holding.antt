@@ -227,7 +227,8 @@ new_answered program commands s status.Done w told w' d d' k k' line ends = (tol
 new_answered program commands s status.NoMemory w told w' d d' k k' line ends = (told, line, ends)
 new_answered program commands s status.WriteFault w told w' d d' k k' line ends =
     inr (told, line, ends)
-new_answered program commands s status.DeviceFault w told w' d d' k k' line ends = (told, line, ends)
+new_answered program commands s status.DeviceFault w told w' d d' k k' line ends =
+    (told, line, ends)
 new_answered program commands s status.Usage w told w' d d' k k' line ends = absurd ends
 new_answered program commands s status.Program w told w' d d' k k' line ends = absurd ends
 new_answered program commands s status.Script w told w' d d' k k' line ends = absurd ends

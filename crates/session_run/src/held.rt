@@ -30,7 +30,7 @@ use std::alloc::Global;
 use std::sync::ledger::Ledger;
 
 /// What is written first where a pool's file was made.
-const CREATED: &str = "created\n";
+pub const CREATED: &str = "created\n";
 
 /// Why not all commands were answered.
 #[derive(Clone, Copy, PartialEq, Eq)]

@@ -1,6 +1,6 @@
 //! Saves a pool as an image.
 
-ghost use Rattle.std.specs.Prelude.{◌≡◌, ◌⊎◌, ◌*◌, ◌<◌, true, IfOk};
+ghost use Rattle.std.specs.Prelude.{◌≡◌, ◌⊎◌, ◌*◌, ◌^◌, ◌<◌, ◌≤◌, true, IfOk};
 ghost use Rattle.nvm_base.specs.Rose.{Rose};
 ghost use Rattle.cache_model.specs.Cache.{view};
 ghost use Rattle.pool_layout.specs.Sizes as sizes_of;
@@ -59,7 +59,22 @@ fn power_on<P: Pmem>(alloc: Global, dev: &mut P)
     }
 }
 
-/// The newest version of every line.
+/// The newest version of so many lines, which are all that the device has.
+pub fn words_on<P: PmemWork>(alloc: Global, lines: u64, dev: &P) -> Result<Words, AllocError>
+    requires on { (P.device dev.now).on ≡ true }
+    requires lines { (P.device dev.now).lines ≡ lines }
+    requires small { lines ≤ 2 ^ 22 }
+    ensures { IfOk result (λ words. words ≡ words_from (view (P.device dev.now).cache) 0
+        (8 * (P.device dev.now).lines)) }
+{
+    let mut words = Words::new(alloc);
+    for k in 0..8 * lines {
+        words.push(newest(dev, k))?;
+    }
+    Ok(words)
+}
+
+/// The newest version of every line of a pool of these sizes.
 pub(crate) fn words_of<P: PmemWork>(
     alloc: Global,
     sizes: &Sizes,
@@ -70,11 +85,7 @@ pub(crate) fn words_of<P: PmemWork>(
     ensures { IfOk result (λ words. words ≡ words_from (view (P.device dev.now).cache) 0
         (8 * (P.device dev.now).lines)) }
 {
-    let mut words = Words::new(alloc);
-    for k in 0..8 * pool_lines(sizes) {
-        words.push(newest(dev, k))?;
-    }
-    Ok(words)
+    words_on(alloc, pool_lines(sizes), dev)
 }
 
 /// A word in the newest version of its line.

@@ -13,8 +13,8 @@ mod status;
 mod storm;
 mod writing;
 
-pub use held::{answer_script, create_held, open_held, run_held, run_new, start_held};
-pub use image::save;
+pub use held::{CREATED, answer_script, create_held, open_held, run_held, run_new, start_held};
+pub use image::{save, words_on};
 pub use moving::move_held;
 pub use runs::{run_created, run_from};
 pub use status::Status;

@@ -1,1 +1,2 @@
 pub mod WorkersRuns
+pub mod WorkersHolding

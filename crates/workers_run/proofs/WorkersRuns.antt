@@ -1,8 +1,7 @@
 -- The commands of a script are run one after another, and their lines are written one after
 -- another.
-use Rattle.std.proofs.Common.{◌≡◌, ℕ, ◌+◌, ◌<◌, ◌≤◌, List, [], Option, Some, None, length}
-use Rattle.std.proofs.Common.{drop, get_or, inl, inr, refl, sym, subst}
-use Rattle.std.proofs.Common.{append-nil}
+use Rattle.std.proofs.Common.{◌≡◌, ℕ, ◌+◌, ◌<◌, ◌≤◌, List, [], Option, Some, None, length, drop}
+use Rattle.std.proofs.Common.{get_or, inl, inr, refl, sym, subst, append-nil}
 use Rattle.std.proofs.lemmas.List.{drop_all}
 use Rattle.std.specs.Io.KnownBytes.{Appends}
 use Rattle.nvm_base.specs.Parts.{AppendsPart}

@@ -1,1 +1,2 @@
 pub mod WorkersRan
+pub mod WorkersHeld

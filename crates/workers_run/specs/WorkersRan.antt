@@ -1,6 +1,6 @@
--- A run of a script of workers on a new pool of compartments: one chain of commands. Each command
--- is done, and its lines are written, before the next.
-use Rattle.std.specs.Prelude.{ℕ, ◌*◌, ◌≡◌, ◌⊎◌, false, List, [], ◌∷◌, ◌++◌, Option, None, replicate}
+-- A run of a script of workers on a new pool of compartments, or on one that is opened: one chain
+-- of commands. Each command is done, and its lines are written, before the next.
+use Rattle.std.specs.Prelude.{ℕ, ℤ, ◌*◌, ◌≡◌, ◌⊎◌, List, [], ◌∷◌, ◌++◌, Option}
 use Rattle.std.specs.Io.KnownBytes.{Appends, Keeps}
 use Rattle.nvm_base.specs.Parts.{AppendsPart}
 use Rattle.pmem.specs.Device.{Device, blanked}
@@ -8,12 +8,15 @@ use Rattle.pmem.specs.Played.{PlaysAll}
 use Rattle.pool_layout.specs.Sizes.{pool_lines}
 use Rattle.pool_workers.specs.declared.answer.MakeFault.{MakeFault}
 use Rattle.pool_workers.specs.Making.{creations, Unmade}
+use Rattle.cnvm_session.specs.declared.creating.StartFault.{StartFault}
 use Rattle.cnvm_session.specs.declared.program.Program.{Program}
+use Rattle.cnvm_session.specs.Opening.{opening_events}
+use Rattle.cnvm_session.specs.Unmade.{IsUnmade}
 use Rattle.workers_script.specs.declared.command.WorkersCommand.{WorkersCommand}
 use Rattle.workers_session.specs.declared.line.WorkersLine.{WorkersLine}
 use Rattle.workers_session.specs.LineText.{line_text}
-use Rattle.workers_session.specs.WorkersState.{WorkersState}
-use Rattle.workers_session.specs.WorkersCommands.{Scene, scene_of, WorkersCommanded}
+use Rattle.workers_session.specs.WorkersState.{WorkersState, new_workers}
+use Rattle.workers_session.specs.WorkersCommands.{Scene, scene_of, Resumes, WorkersCommanded}
 
 -- the texts of lines, one after another
 abbrev pub lines_text : List WorkersLine → List ℕ
@@ -48,10 +51,6 @@ AreCreated program count d b =
     PlaysAll (blanked (pool_lines program.image.parts.sizes * count) d)
     (creations program.image.parts.sizes program.digest 0 count) b
 
--- workers that are up, none of which has a transaction
-abbrev pub new_workers : (count : ℕ) → WorkersState
-new_workers count = record { tasks = replicate count None; down = false }
-
 -- The compartments couldn't be created for this cause: nothing is written, and no step is taken.
 abbrev pub Unbegun : MakeFault → Program → (count : ℕ) → (w w' : Option (List ℕ)) → (d d' : Device)
     → (k k' : ℕ) → Type 0
@@ -72,3 +71,42 @@ abbrev pub BreaksOffNew : Program → (count : ℕ) → List WorkersCommand → 
 BreaksOffNew program count commands w w' d d' k k' =
     (b : Device) × (s : WorkersState) × AreCreated program count d b
     × BreaksOff program commands (scene_of (new_workers count) b k) w (scene_of s d' k') w'
+
+-- The images of all compartments are written on blank lines, one after another, and the pools in
+-- them are opened: each is recovered, with a line.
+pub record OpensWorkers (program : Program) (count : ℕ) (words : List ℤ) (d : Device) (k : ℕ)
+    (lines : List WorkersLine) (y : Scene) : Type 0 where
+  pub opened : Device
+  pub written : PlaysAll (blanked (pool_lines program.image.parts.sizes * count) d)
+      (opening_events (pool_lines program.image.parts.sizes * count) words) opened
+  pub resumes : Resumes program count opened k lines y
+
+-- The compartments couldn't be opened for this cause: nothing is written, no step is taken, and of
+-- the events that write the images some first ones may be done.
+abbrev pub UnopenedWorkers : StartFault → Program → (count : ℕ) → List ℤ
+    → (w w' : Option (List ℕ)) → (d d' : Device) → (k k' : ℕ) → Type 0
+UnopenedWorkers why program count words w w' d d' k k' =
+    Keeps w w' × (k' ≡ k)
+    × IsUnmade why (pool_lines program.image.parts.sizes * count)
+    (opening_events (pool_lines program.image.parts.sizes * count) words) d d'
+
+-- The compartments are opened, the lines of their recoveries are written, and all commands are run
+-- on them.
+abbrev pub RunsOpened : Program → (count : ℕ) → List WorkersCommand → List ℤ
+    → (w w' : Option (List ℕ)) → (d d' : Device) → (k k' : ℕ) → Type 0
+RunsOpened program count commands words w w' d d' k k' =
+    (lines : List WorkersLine) × (x : Scene) × (w1 : Option (List ℕ)) × (s : WorkersState)
+    × OpensWorkers program count words d k lines x × Appends w w1 (lines_text lines)
+    × RunsWorkers program commands x w1 (scene_of s d' k') w'
+
+-- The compartments are opened, and of the lines of their recoveries a part is written; or all of
+-- them are, and the run breaks off.
+abbrev pub BreaksOffOpened : Program → (count : ℕ) → List WorkersCommand → List ℤ
+    → (w w' : Option (List ℕ)) → (d d' : Device) → (k k' : ℕ) → Type 0
+BreaksOffOpened program count commands words w w' d d' k k' =
+    ((lines : List WorkersLine) × (s : WorkersState)
+    × OpensWorkers program count words d k lines (scene_of s d' k')
+    × AppendsPart w w' (lines_text lines))
+    ⊎ ((lines : List WorkersLine) × (x : Scene) × (w1 : Option (List ℕ)) × (s : WorkersState)
+    × OpensWorkers program count words d k lines x × Appends w w1 (lines_text lines)
+    × BreaksOff program commands x w1 (scene_of s d' k') w')

@@ -3,7 +3,7 @@
 /// Why not all lines of a run were written.
 #[derive(Clone, Copy)]
 pub enum RunFault {
-    /// The device failed while the compartments were created.
+    /// The device failed while the compartments were created or opened, or their file was given up.
     Device,
     NoMemory,
     /// The sink failed.

@@ -103,8 +103,8 @@ fn answer_workers<K: Sink, P: Pmem + Drop, L: Ledger>(
     Ok(())
 }
 
-/// Notes the first trap of these lines.
-fn note_traps(traps: &mut Traps, lines: &[WorkersLine], session: &WorkersSession) {
+/// Notes the first traps of these lines.
+pub(crate) fn note_traps(traps: &mut Traps, lines: &[WorkersLine], session: &WorkersSession) {
     for line in lines {
         match line {
             WorkersLine::Own {
@@ -113,6 +113,10 @@ fn note_traps(traps: &mut Traps, lines: &[WorkersLine], session: &WorkersSession
             } => {
                 traps.ends(*kind, session.stop(*worker));
             }
+            WorkersLine::Own {
+                worker,
+                answer: Answer::RecoveredAborted(kind),
+            } => traps.undoes(*kind, session.stop(*worker)),
             _ => (),
         }
     }

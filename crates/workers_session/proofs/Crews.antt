@@ -11,9 +11,11 @@ use Rattle.pmem.proofs.Refused.{all_on}
 use Rattle.pm_machine.specs.declared.image.Image.{Image}
 use Rattle.pool_workers.specs.Task.{IsUncutOr}
 use Rattle.pool_workers.specs.Crew.{Tasks, task_at, AreTasks, HasCompartments, OtherTasksStay}
+use Rattle.cnvm_session.specs.declared.program.Program.{Program}
 use Rattle.workers_session.specs.declared.line.WorkersLine.{WorkersLine}
-use Rattle.workers_session.specs.WorkersState.{IsReadyFor, stranger_in}
-use Rattle.workers_session.specs.WorkersCommands.{Scene, stopped_line, stopped_lines}
+use Rattle.workers_session.specs.WorkersState.{IsReadyFor, new_workers, stranger_in}
+use Rattle.workers_session.specs.WorkersCommands.{Scene, scene_of, stopped_line, stopped_lines}
+use Rattle.workers_session.specs.WorkersCommands.{RecoversFrom, Resumes}
 use Rattle.workers_session.proofs.Rounds.{split_last}
 
 pub idle_at : (n j : ℕ) → task_at (replicate n None) j ≡ None
@@ -90,6 +92,27 @@ created_ready image count lines ts d b es idle few tasks devices played =
           subst IsUncutOr
           (sym (ap (λ (us : Tasks). task_at us j) idle ∙ idle_at count j)) tt;
     }
+
+-- workers without a transaction
+module _ (count : ℕ) (ts : Tasks) (idle : ts ≡ replicate count None) where
+  pub idle_long : length ts ≡ count
+  idle_long = ap (λ (us : Tasks). length us) idle ∙ length-replicate count None
+
+  pub idle_tasks : (image : Image) → AreTasks image ts
+  idle_tasks image = subst (AreTasks image) (sym idle) (each count)
+    where
+      each : (n : ℕ) → AreTasks image (replicate n None)
+      each zero = tt
+      each (suc n) = (tt, each n)
+
+  -- the recoveries of all their compartments open the pools
+  pub idle_resumes : (program : Program) (n : ℕ) (d : Device) (k : ℕ) (lines : List WorkersLine)
+      (y : Scene) → RecoversFrom program 0 n (scene_of (record { tasks = ts; down = false }) d k)
+      lines y → n ≡ count → Resumes program count d k lines y
+  idle_resumes program n d k lines y recovers all =
+      subst (λ (m : ℕ). RecoversFrom program 0 m (scene_of (new_workers count) d k) lines y) all
+      (subst (λ (us : Tasks). RecoversFrom program 0 n
+      (scene_of (record { tasks = us; down = false }) d k) lines y) idle recovers)
 
 -- one more worker is idle
 pub idle_more : (i : ℕ) (ts us : Tasks) → ((j : ℕ) → j < i → task_at ts j ≡ None) →

@@ -4,6 +4,7 @@ use Rattle.std.proofs.Common.{[], ◌∷◌, ◌++◌, length, drop, slice_index
 use Rattle.std.proofs.Common.{sym, ap, append_assoc, append-nil, arith}
 use Rattle.pm_machine.specs.declared.image.Image.{Image}
 use Rattle.recovery.specs.declared.answer.RecoverAnswer.{RecoverAnswer}
+use Rattle.cnvm_session.specs.declared.program.Program.{Program}
 use Rattle.cnvm_session.specs.Outcomes.{answer_of_recovery}
 use Rattle.workers_session.specs.declared.line.WorkersLine.{WorkersLine}
 use Rattle.workers_session.specs.declared.line.WorkersLine.TheVariants.{Own}
@@ -112,16 +113,17 @@ round_next i n less = let e : n - i ≡ suc (n - (i + 1)) = omega arith in
     let next : i + 1 ≡ suc i = omega arith in rw (e, next) refl
 
 -- the same for recoveries
-abbrev pub LeadsBack : Image → (i n all : ℕ) → (x z : Scene) → List WorkersLine → Type 0
-LeadsBack image i n all x z lines =
-    (rest : List WorkersLine) (y : Scene) → RecoversFrom image i n z rest y →
-    RecoversFrom image 0 all x (lines ++ rest) y
+abbrev pub LeadsBack : Program → (i n all : ℕ) → (x z : Scene) → List WorkersLine → Type 0
+LeadsBack program i n all x z lines =
+    (rest : List WorkersLine) (y : Scene) → RecoversFrom program i n z rest y →
+    RecoversFrom program 0 all x (lines ++ rest) y
 
-pub back_next : (image : Image) (i n all : ℕ) (x z m : Scene) (lines : List WorkersLine)
+pub back_next : (program : Program) (i n all : ℕ) (x z m : Scene) (lines : List WorkersLine)
     (a : RecoverAnswer) → i < all →
-    LeadsBack image i (all - i) all x z lines → RecoversOne image i a z m → ends_power a ≡ false →
-    LeadsBack image (i + 1) (all - (i + 1)) all x m (lines ++ Own i (answer_of_recovery a) ∷ [])
-back_next image i n all x z m lines a less leads one goes =
+    LeadsBack program i (all - i) all x z lines → RecoversOne program i a z m →
+    ends_power a ≡ false →
+    LeadsBack program (i + 1) (all - (i + 1)) all x m (lines ++ Own i (answer_of_recovery a) ∷ [])
+back_next program i n all x z m lines a less leads one goes =
     λ rest y recovers.
     let e : all - i ≡ suc (all - (i + 1)) = omega arith in
     let next : i + 1 ≡ suc i = omega arith in
@@ -136,18 +138,19 @@ back_next image i n all x z m lines a less leads one goes =
       (λ ends. clash (ends_power a) ends goes, λ is. rw (← next) recovers),
     )))
 
-pub back_over : (image : Image) (i n all : ℕ) (x z m : Scene) (lines : List WorkersLine)
+pub back_over : (program : Program) (i n all : ℕ) (x z m : Scene) (lines : List WorkersLine)
     (a : RecoverAnswer) → i < all →
-    LeadsBack image i (all - i) all x z lines → RecoversOne image i a z m → ends_power a ≡ true →
-    RecoversFrom image 0 all x (lines ++ Own i (answer_of_recovery a) ∷ []) m
-back_over image i n all x z m lines a less leads one ends =
+    LeadsBack program i (all - i) all x z lines → RecoversOne program i a z m →
+    ends_power a ≡ true →
+    RecoversFrom program 0 all x (lines ++ Own i (answer_of_recovery a) ∷ []) m
+back_over program i n all x z m lines a less leads one ends =
     let e : all - i ≡ suc (all - (i + 1)) = omega arith in
     leads (Own i (answer_of_recovery a) ∷ []) m
     (rw e (a, [], m, one, refl, (λ is. (refl, refl), λ goes. clash (ends_power a) ends goes)))
 
-pub back_end : (image : Image) (i n all : ℕ) (x z : Scene) (lines : List WorkersLine) →
-    n ≡ 0 → LeadsBack image i n all x z lines → RecoversFrom image 0 all x (lines ++ []) z
-back_end image i n all x z lines none leads = leads [] z (rw none (refl, refl))
+pub back_end : (program : Program) (i n all : ℕ) (x z : Scene) (lines : List WorkersLine) →
+    n ≡ 0 → LeadsBack program i n all x z lines → RecoversFrom program 0 all x (lines ++ []) z
+back_end program i n all x z lines none leads = leads [] z (rw none (refl, refl))
 
 pub round_none : (i n : ℕ) → n ≤ i → round_from i (n - i) ≡ []
 round_none i n none = let e : n - i ≡ zero = omega arith in rw e refl

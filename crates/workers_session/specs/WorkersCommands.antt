@@ -1,6 +1,5 @@
 -- What each command of a script of workers does: its lines, the workers and the device after it,
--- and
--- the count of steps, which rises from k to k1.
+-- and the count of steps, which rises from k to k1.
 use Rattle.std.specs.Prelude.{ℕ, zero, suc, ◌+◌, ◌≡◌, ◌==◌, ◌⊎◌, Bool, true, false, List, [], ◌∷◌}
 use Rattle.std.specs.Prelude.{◌++◌, Option, Some, None, length, if◌then◌else◌, ℤ}
 use Rattle.cache_model.specs.Cache.{view}
@@ -9,7 +8,6 @@ use Rattle.cache_model.specs.declared.choice.Choice.{Choice}
 use Rattle.pmem.specs.Device.{Device, memory_of, powered, with_left, with_armed}
 use Rattle.pool_layout.specs.declared.places.TheConstants.{LAST, DONE}
 use Rattle.pm_machine.specs.declared.image.Image.{Image}
-use Rattle.pm_machine.specs.declared.records.Policy.TheVariants.{EndPool}
 use Rattle.tx_run.specs.declared.standing.Standing.{Standing}
 use Rattle.tx_run.specs.declared.standing.Standing.TheVariants as stands
 use Rattle.recovery.specs.declared.answer.RecoverAnswer.{RecoverAnswer}
@@ -25,7 +23,7 @@ use Rattle.pool_workers.specs.Crew.{standing_at, TurnOf}
 use Rattle.cnvm_session.specs.declared.answer.Answer.TheVariants as answer
 use Rattle.cnvm_session.specs.declared.program.Program.{Program}
 use Rattle.cnvm_session.specs.Commands.{call_number, tx_parameters, fallen}
-use Rattle.cnvm_session.specs.Marks.{rolls_back_of}
+use Rattle.cnvm_session.specs.Marks.{rolls_back_of, policy_of, owes_marked}
 use Rattle.cnvm_session.specs.Outcomes.{answer_of_recovery}
 use Rattle.workers_script.specs.declared.command.WorkersCommand.{WorkersCommand}
 use Rattle.workers_script.specs.declared.command.WorkersCommand.TheVariants as command
@@ -33,7 +31,7 @@ use Rattle.workers_session.specs.declared.line.WorkersLine.{WorkersLine}
 use Rattle.workers_session.specs.declared.line.WorkersLine.TheVariants.{Own, Plain, Started}
 use Rattle.workers_session.specs.declared.line.WorkersLine.TheVariants.{RefusedWorker, RefusedAbort}
 use Rattle.workers_session.specs.Looks.{IsPoolText}
-use Rattle.workers_session.specs.WorkersState.{WorkersState, refusal_at, stranger_in}
+use Rattle.workers_session.specs.WorkersState.{WorkersState, new_workers, refusal_at, stranger_in}
 
 -- A moment: the workers, the device, and the steps so far.
 pub record Scene : Type 0 where
@@ -241,27 +239,38 @@ keeps_down (recovered.Off phase) = true
 keeps_down recovered.Failed = true
 keeps_down recovered.NoMemory = true
 
--- The recovery of one compartment, which drops its worker's transaction. All else stays, except for
--- fences.
-pub record RecoversOne (image : Image) (worker : ℕ) (a : RecoverAnswer) (x y : Scene) :
+-- a worker's compartment of the device
+abbrev pub compartment_of : Program → (worker : ℕ) → Scene → Device
+compartment_of program worker x = compartment program.image worker x.device
+
+-- The recovery of one compartment, by the mark of the transaction that it owes, as that of a
+-- session. It drops its worker's transaction. All else stays, except for fences.
+pub record RecoversOne (program : Program) (worker : ℕ) (a : RecoverAnswer) (x y : Scene) :
     Type 0 where
-  pub recovered : IsRecovered a EndPool image (compartment image worker x.device)
-      (compartment image worker y.device) x.steps y.steps
+  pub recovered : IsRecovered a (policy_of (owes_marked program (compartment_of program worker x)))
+      program.image (compartment_of program worker x) (compartment_of program worker y) x.steps
+      y.steps
   pub dropped : task_at y.workers.tasks worker ≡ None
   pub others : OtherTasksStay worker x.workers.tasks y.workers.tasks
   pub count : length y.workers.tasks ≡ length x.workers.tasks
-  pub aside : StaysAside image worker x.device y.device
+  pub aside : StaysAside program.image worker x.device y.device
   pub down : y.workers.down ≡ (if keeps_down a then true else x.workers.down)
 
 -- The recoveries of n compartments, from this one on, up to one that is interrupted. Each has a
 -- line.
-abbrev pub RecoversFrom : Image → (worker n : ℕ) → Scene → List WorkersLine → Scene → Type 0
-RecoversFrom image worker zero x lines y = Unchanged [] x lines y
-RecoversFrom image worker (suc n) x lines y =
+abbrev pub RecoversFrom : Program → (worker n : ℕ) → Scene → List WorkersLine → Scene → Type 0
+RecoversFrom program worker zero x lines y = Unchanged [] x lines y
+RecoversFrom program worker (suc n) x lines y =
     (a : RecoverAnswer) × (rest : List WorkersLine) × (z : Scene)
-    × RecoversOne image worker a x z × (lines ≡ Own worker (answer_of_recovery a) ∷ rest)
+    × RecoversOne program worker a x z × (lines ≡ Own worker (answer_of_recovery a) ∷ rest)
     × ((ends_power a ≡ true → Unchanged [] z rest y)
-    × (ends_power a ≡ false → RecoversFrom image (suc worker) n z rest y))
+    × (ends_power a ≡ false → RecoversFrom program (suc worker) n z rest y))
+
+-- The pools that lie in the compartments of a device are opened: each is recovered, from 0 on, as
+-- after a power cut.
+abbrev pub Resumes : Program → (count : ℕ) → Device → (k : ℕ) → List WorkersLine → Scene → Type 0
+Resumes program count d k lines y =
+    RecoversFrom program 0 count (scene_of (new_workers count) d k) lines y
 
 -- the workers are up again, unless a recovery keeps them down, and the power was cut
 abbrev pub cut_scene : Choice → Scene → Scene
@@ -271,14 +280,14 @@ cut_scene choice x = record {
   steps = x.steps;
 }
 
-abbrev pub PowersAll : Image → Choice → Scene → List WorkersLine → Scene → Type 0
-PowersAll image choice x lines y =
+abbrev pub PowersAll : Program → Choice → Scene → List WorkersLine → Scene → Type 0
+PowersAll program choice x lines y =
     ((line : ℕ) → fallen 0 choice.picks ≡ Some line →
     RefusedWith (Plain (answer.RefusedPick line)) x lines y)
     × ((line : ℕ) → fallen 0 choice.picks ≡ None → bad (memory_of x.device) choice.picks ≡ Some line
     → RefusedWith (Plain (answer.RefusedPick line)) x lines y)
     × (fallen 0 choice.picks ≡ None → bad (memory_of x.device) choice.picks ≡ None →
-    RecoversFrom image 0 (length x.workers.tasks) (cut_scene choice x) lines y)
+    RecoversFrom program 0 (length x.workers.tasks) (cut_scene choice x) lines y)
 
 -- the device with another count of events left or another armed fault
 abbrev pub with_device : Device → Scene → Scene
@@ -296,7 +305,7 @@ WorkersCommanded program (command.Stop left) x lines y =
 WorkersCommanded program (command.Fault at) x lines y =
     (lines ≡ []) × (y ≡ with_device (with_armed at x.device) x)
 WorkersCommanded program (command.Power choice) x lines y =
-    PowersAll program.image choice x lines y
+    PowersAll program choice x lines y
 WorkersCommanded program (command.Show worker) x lines y =
     ShowsWorker (refusal_at program.image x.workers worker x.device) program worker x lines y
 WorkersCommanded program (command.Last worker) x lines y =

@@ -1,7 +1,7 @@
 -- What a session of workers knows: the unfinished transaction of each worker, and whether all
 -- workers are down. The pools are on the device.
 use Rattle.std.specs.Prelude.{ℕ, ◌≡◌, ◌≤◌, Bool, true, false, List, [], ◌∷◌, Option, None, Some}
-use Rattle.std.specs.Prelude.{length, nat_lt, if◌then◌else◌}
+use Rattle.std.specs.Prelude.{length, nat_lt, if◌then◌else◌, replicate}
 use Rattle.pmem.specs.Device.{Device}
 use Rattle.pm_machine.specs.declared.image.Image.{Image}
 use Rattle.tx_run.specs.declared.standing.Standing.{Standing}
@@ -17,6 +17,10 @@ use Rattle.workers_session.specs.declared.line.WorkersLine.TheVariants.{RefusedB
 pub record WorkersState : Type 0 where
   pub tasks : Tasks
   pub down : Bool
+
+-- workers that are up, none of which has a transaction
+abbrev pub new_workers : (count : ℕ) → WorkersState
+new_workers count = record { tasks = replicate count None; down = false }
 
 -- What holds between commands: the transactions are the image's, and each worker has a compartment.
 -- While the workers aren't down, the device is on and no turn was refused.

@@ -11,5 +11,5 @@ mod session;
 mod text;
 
 pub use line::{WorkersLine, WorkersLines};
-pub use session::{WorkersSession, create_workers};
+pub use session::{WorkersSession, create_workers, idle_workers};
 pub use text::line_text;

@@ -7,9 +7,10 @@ ghost use Rattle.pool_layout.specs.Sizes.{pool_lines};
 ghost use Rattle.pool_layout.specs.declared.places.TheConstants as place;
 ghost use Rattle.pool_workers.specs.Compartment.{first_line};
 ghost use Rattle.pool_workers.specs.Crew.{compartment, HasCompartment, standing_at};
+ghost use Rattle.cnvm_session.specs.Marks.{owes_marked};
 ghost use Rattle.workers_session.specs.Looks.{IsPoolText};
 
-use cnvm_session::{Program, pool_text};
+use cnvm_session::{Program, owes_marked, pool_text};
 use nvm_base::Text;
 use pm_machine::Image;
 use pmem::{Pmem, PmemWork};
@@ -37,6 +38,28 @@ pub(crate) fn standing_of<P: Pmem + Drop, O: Origin>(
     let standing = assess(&window);
     *dev = window.into_device();
     standing
+}
+
+/// Whether the worker's compartment owes a transaction that is marked.
+pub(crate) fn owes_marked_in<P: Pmem + Drop, O: Origin>(
+    program: &Program,
+    worker: u32,
+    dev: &mut P,
+) -> bool
+    requires worker { worker < 8 }
+    requires first { O.first ≡ first_line program.now.image.parts.sizes worker }
+    requires lines { O.lines ≡ pool_lines program.now.image.parts.sizes }
+    requires whole { O.whole ≡ P.device dev.old }
+    requires inside { HasCompartment program.now.image worker (P.device dev.old) }
+    requires on { (P.device dev.old).on ≡ true }
+    ensures value { result ≡ owes_marked program.now
+        (compartment program.now.image worker (P.device dev.old)) }
+    ensures same { P.device dev.new ≡ P.device dev.old }
+{
+    let window: Window<P, O> = Window::new(dev.take(), program.image.sizes(), worker);
+    let owes = owes_marked(program, &window);
+    *dev = window.into_device();
+    owes
 }
 
 /// The text of the pool in the worker's compartment.

@@ -1,8 +1,8 @@
 //! The workers of a program on one device, and what each command does to them.
 
 ghost use Rattle.std.specs.Prelude.{ℕ, ◌≡◌, ◌+◌, ◌*◌, ◌≤◌, ◌<◌, ◌++◌, true, false, length, None};
-ghost use Rattle.std.specs.Prelude.{Some, IfOk, IfErr, IfNone, IsNone, OnOk, IsErrOf, List, []};
-ghost use Rattle.std.specs.Prelude.{◌∷◌, replicate};
+ghost use Rattle.std.specs.Prelude.{Some, IfOk, IfErr, IfNone, IsNone, OnOk, OnErr, IsErrOf, List};
+ghost use Rattle.std.specs.Prelude.{[], ◌∷◌, replicate};
 ghost use Rattle.pmem.specs.Device.{FaultsRose, blanked, powered};
 ghost use Rattle.pmem.specs.Played.{PlaysAll};
 ghost use Rattle.pool_layout.specs.Sizes.{pool_lines};
@@ -20,21 +20,24 @@ ghost use Rattle.workers_session.specs.WorkersCommands.{scene_of, BeginsAs, Star
 ghost use Rattle.workers_session.specs.WorkersCommands.{LastsWorker, TurnsOnce, TurnList};
 ghost use Rattle.workers_session.specs.WorkersCommands.{TurnsGiven, FinishesAll, AreIdle};
 ghost use Rattle.workers_session.specs.WorkersCommands.{ends_power, RecoversOne, RecoversFrom};
-ghost use Rattle.workers_session.specs.WorkersCommands.{PowersAll, WorkersCommanded, stopped_line};
+ghost use Rattle.workers_session.specs.WorkersCommands.{Resumes, PowersAll, WorkersCommanded};
+ghost use Rattle.workers_session.specs.WorkersCommands.{stopped_line};
 ghost use Rattle.workers_session.specs.WorkersCommands.{stopped_lines, turn_lines, round_from};
 ghost use Rattle.workers_session.specs.WorkersCommands.{rounds_of};
 ghost use Rattle.workers_session.specs.inside.Turning.{Extends, turns_in, busy_one, busy_first};
 
 use crate::line::{WorkersLine, WorkersLines, add, no_line, one};
-use crate::looking::{last_of, standing_of, text_of};
+use crate::looking::{last_of, owes_marked_in, standing_of, text_of};
 use crate::outcome::{begin_line, begin_runs_out, ends_power, is_interrupted, keeps_down};
 use cache_model::Choice;
-use cnvm_session::{Answer, Program, answer_of_recovery, first_fallen, parameters, rolls_back};
+use cnvm_session::{
+    Answer, Program, answer_of_recovery, first_fallen, parameters, policy_of, rolls_back,
+};
 use nvm_base::Steps;
 use pm_machine::{Image, Stop};
 use pmem::Pmem;
 use pool_workers::{MakeFault, TurnAnswer, Workers};
-use std::alloc::Global;
+use std::alloc::{AllocError, Global};
 use std::marker::{Brand, Model};
 use std::sync::ledger::Ledger;
 use tx_run::Standing;
@@ -85,10 +88,46 @@ pub fn create_workers<P: Pmem>(
     }
 }
 
+/// `count` workers that are down and have no transaction, for compartments that lie on a device.
+#[tactic(auto, using(crate::proofs::Crews::idle_long))]
+pub fn idle_workers(alloc: Global, count: u32) -> Result<WorkersSession, AllocError>
+    requires last { count ≤ 8 }
+    ensures idle { IfOk result (λ s. s ≡ record { tasks = replicate count None; down = true }) }
+    ensures count { IfOk result (λ s. length s.tasks ≡ count) }
+{
+    let workers = Workers::idle(alloc, count)?;
+    Ok(WorkersSession {
+        workers,
+        down: true,
+    })
+}
+
 impl WorkersSession {
     /// Where the machine of a worker did its last instruction: after a trap, where that came.
     pub fn stop(&self, worker: u32) -> Option<Stop> {
         self.workers.stop(worker)
+    }
+
+    /// Opens the pools in the compartments of a device: each is recovered, from 0 on, as after a
+    /// power cut. Gives the lines; `None` if there was no memory to hold them.
+    #[tactic(auto, using(crate::proofs::Crews::idle_tasks, crate::proofs::Crews::idle_resumes))]
+    pub fn resume<P: Pmem + Drop, L: Ledger>(
+        &mut self,
+        alloc: Global,
+        program: &Program,
+        dev: &mut P,
+        steps: &mut Steps<L>,
+    ) -> Option<WorkersLines>
+        requires few { length self.old.tasks ≤ 8 }
+        requires idle { self.old.tasks ≡ replicate (length self.old.tasks) None }
+        requires lines { HasCompartments program.now.image self.old.tasks (P.device dev.old) }
+        requires on { (P.device dev.old).on ≡ true }
+        ensures resumes { (lines : List Line) × GivesLines result lines
+            × Resumes program.now (length self.old.tasks) (P.device dev.old) steps.old lines
+            (scene_of self.new (P.device dev.new) steps.new) }
+        ensures sound { IsReadyFor program.now.image self.new (P.device dev.new) }
+    {
+        self.recover_all(program, no_line(alloc), dev, steps)
     }
 
     /// Does a command of a script, and gives its lines; `None` if there was no memory to hold them.
@@ -126,9 +165,7 @@ impl WorkersSession {
                 dev.arm_fault(*k);
                 no_line(alloc)
             }
-            WorkersCommand::Power(choice) => {
-                self.power(alloc, &program.image, choice, dev, steps)
-            }
+            WorkersCommand::Power(choice) => self.power(alloc, program, choice, dev, steps),
             WorkersCommand::Show(worker) => one(alloc, self.show(alloc, program, *worker, dev)),
             WorkersCommand::Last(worker) => one(alloc, self.last(&program.image, *worker, dev)),
         }
@@ -485,23 +522,24 @@ impl WorkersSession {
     fn power<P: Pmem + Drop, L: Ledger>(
         &mut self,
         alloc: Global,
-        image: &Image,
+        program: &Program,
         choice: &Choice,
         dev: &mut P,
         steps: &mut Steps<L>,
     ) -> Option<WorkersLines>
-        requires sound { IsReadyFor image.now self.old (P.device dev.old) }
+        requires sound { IsReadyFor program.now.image self.old (P.device dev.old) }
         ensures does { (lines : List Line) × GivesLines result lines
-            × PowersAll image.now choice.now (scene_of self.old (P.device dev.old) steps.old) lines
+            × PowersAll program.now choice.now
+            (scene_of self.old (P.device dev.old) steps.old) lines
             (scene_of self.new (P.device dev.new) steps.new) }
-        ensures sound { IsReadyFor image.now self.new (P.device dev.new) }
+        ensures sound { IsReadyFor program.now.image self.new (P.device dev.new) }
     {
         if let Some(line) = first_fallen(choice.picks.as_slice()) {
             return one(alloc, WorkersLine::Plain(Answer::RefusedPick(line)));
         }
         match dev.power(choice) {
             Err(pick) => one(alloc, WorkersLine::Plain(Answer::RefusedPick(pick.line))),
-            Ok(()) => self.recover_all(image, no_line(alloc), dev, steps),
+            Ok(()) => self.recover_all(program, no_line(alloc), dev, steps),
         }
     }
 
@@ -509,46 +547,46 @@ impl WorkersSession {
     /// up again if none was, and each compartment's pool is recovered or has a mark.
     fn recover_all<P: Pmem + Drop, L: Ledger>(
         &mut self,
-        image: &Image,
+        program: &Program,
         told: Option<WorkersLines>,
         dev: &mut P,
         steps: &mut Steps<L>,
     ) -> Option<WorkersLines>
         requires few { length self.old.tasks ≤ 8 }
-        requires tasks { AreTasks image.now self.old.tasks }
-        requires lines { HasCompartments image.now self.old.tasks (P.device dev.old) }
+        requires tasks { AreTasks program.now.image self.old.tasks }
+        requires lines { HasCompartments program.now.image self.old.tasks (P.device dev.old) }
         requires on { (P.device dev.old).on ≡ true }
         ensures does { (lines : List Line) × Extends told result lines
-            × RecoversFrom image.now 0 (length self.old.tasks)
+            × RecoversFrom program.now 0 (length self.old.tasks)
             (scene_of (record { tasks = self.old.tasks; down = false }) (P.device dev.old)
             steps.old) lines (scene_of self.new (P.device dev.new) steps.new) }
-        ensures sound { IsReadyFor image.now self.new (P.device dev.new) }
+        ensures sound { IsReadyFor program.now.image self.new (P.device dev.new) }
     {
         self.down = false;
-        self.recoveries(image, told, dev, steps)
+        self.recoveries(program, told, dev, steps)
     }
 
     /// Recovers each compartment, from 0 on, up to a recovery that is interrupted.
     fn recoveries<P: Pmem + Drop, L: Ledger>(
         &mut self,
-        image: &Image,
+        program: &Program,
         told: Option<WorkersLines>,
         dev: &mut P,
         steps: &mut Steps<L>,
     ) -> Option<WorkersLines>
         requires few { length self.old.tasks ≤ 8 }
-        requires tasks { AreTasks image.now self.old.tasks }
-        requires lines { HasCompartments image.now self.old.tasks (P.device dev.old) }
+        requires tasks { AreTasks program.now.image self.old.tasks }
+        requires lines { HasCompartments program.now.image self.old.tasks (P.device dev.old) }
         requires on { (P.device dev.old).on ≡ true }
         ensures does { (lines : List Line) × Extends told result lines
-            × RecoversFrom image.now 0 (length self.old.tasks)
+            × RecoversFrom program.now 0 (length self.old.tasks)
             (scene_of self.old (P.device dev.old) steps.old) lines
             (scene_of self.new (P.device dev.new) steps.new) }
-        ensures sound { IsReadyFor image.now self.new (P.device dev.new) }
+        ensures sound { IsReadyFor program.now.image self.new (P.device dev.new) }
     {
         let mut told = told;
         for worker in 0..self.count() {
-            let (more, ends) = self.recover(image, worker, told, dev, steps);
+            let (more, ends) = self.recover(program, worker, told, dev, steps);
             told = more;
             if ends {
                 return told;
@@ -557,10 +595,11 @@ impl WorkersSession {
         told
     }
 
-    /// Recovers a compartment. Gives the lines, and whether no compartment after it is recovered.
+    /// Recovers a compartment, by the mark of the transaction that it owes. Gives the lines, and
+    /// whether no compartment after it is recovered.
     fn recover<P: Pmem + Drop, L: Ledger>(
         &mut self,
-        image: &Image,
+        program: &Program,
         worker: u32,
         told: Option<WorkersLines>,
         dev: &mut P,
@@ -568,10 +607,10 @@ impl WorkersSession {
     ) -> (Option<WorkersLines>, bool)
         requires worker { worker < length self.old.tasks }
         requires few { length self.old.tasks ≤ 8 }
-        requires tasks { AreTasks image.now self.old.tasks }
-        requires lines { HasCompartments image.now self.old.tasks (P.device dev.old) }
+        requires tasks { AreTasks program.now.image self.old.tasks }
+        requires lines { HasCompartments program.now.image self.old.tasks (P.device dev.old) }
         requires on { (P.device dev.old).on ≡ true }
-        ensures recovers { (a : RecoverAnswer) × RecoversOne image.now worker a
+        ensures recovers { (a : RecoverAnswer) × RecoversOne program.now worker a
             (scene_of self.old (P.device dev.old) steps.old)
             (scene_of self.new (P.device dev.new) steps.new)
             × Extends told result.0 (Own worker (recovery_answer a) ∷ [])
@@ -580,10 +619,13 @@ impl WorkersSession {
         ensures dropped { task_at self.new.tasks worker ≡ None }
         ensures others { OtherTasksStay worker self.old.tasks self.new.tasks }
         ensures count { length self.new.tasks ≡ length self.old.tasks }
-        ensures tasks { AreTasks image.now self.new.tasks }
-        ensures lines { HasCompartments image.now self.new.tasks (P.device dev.new) }
+        ensures tasks { AreTasks program.now.image self.new.tasks }
+        ensures lines { HasCompartments program.now.image self.new.tasks (P.device dev.new) }
     {
-        let answer = self.workers.recover_one(image, worker, dev, steps);
+        let policy = policy_of(owes_marked_in::<P, Brand>(program, worker, dev));
+        let answer = self
+            .workers
+            .recover_one(&program.image, worker, policy, dev, steps);
         self.down = self.down || keeps_down(answer);
         let own = WorkersLine::Own {
             worker,

@@ -117,7 +117,8 @@ module _ (program : Program) where
         recovers image a s t fits is = is
 
         recoveries_alone : (j : ℕ) (lines : List WorkersLine) (s t : States) → NameNoPick lines
-            → RecoveryLines program (powered choice d) j lines s t → Lead power lines s t
+            → RecoveryLines program (λ i. worker_image program i (powered choice d)) j lines s t
+            → Lead power lines s t
         recoveries_alone j [] s t fits is = stay s t is
         recoveries_alone j (l ∷ lines) s t fits is =
             chain_append (own_event program worker power d l)
@@ -273,7 +274,7 @@ module _ (program : Program) where
       step_alone (command.Fault at) step = no_line (command.Fault at) step.meant
       step_alone (command.Power choice) step =
           power_alone x.scene.device choice lines x.states z.states
-          (powers_say program.image choice x.scene lines z.scene step.did) step.meant
+          (powers_say program choice x.scene lines z.scene step.did) step.meant
       step_alone (command.Show v) step =
           let one = show_says program v x held lines z.scene step.meant.0 step.did in
           one_line (command.Show v) one.0 one.1

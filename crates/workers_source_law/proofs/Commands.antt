@@ -37,8 +37,8 @@ use Rattle.workers_session.specs.WorkersState.{refused_first, refusal_at}
 use Rattle.workers_session.specs.Looks.{IsPoolText}
 use Rattle.workers_session.specs.WorkersCommands.{Scene, Unchanged, RefusedWith, RunsOut, HasBegun}
 use Rattle.workers_session.specs.WorkersCommands.{BeginsAs, BeginsWith, BeginsBy, BeginsTo}
-use Rattle.workers_session.specs.WorkersCommands.{BeginsNamed, Starts, ShowsWorker}
-use Rattle.workers_session.specs.WorkersCommands.{LastsWorker, with_device, WorkersCommanded}
+use Rattle.workers_session.specs.WorkersCommands.{BeginsNamed, Starts, ShowsWorker, LastsWorker}
+use Rattle.workers_session.specs.WorkersCommands.{with_device, WorkersCommanded}
 use Rattle.session_law.specs.Source.{source_pool}
 use Rattle.session_law.specs.Words.{AreWords}
 use Rattle.session_law.specs.Agrees.{Agrees}
@@ -51,8 +51,7 @@ use Rattle.session_law.proofs.Reading.{is_marked}
 use Rattle.session_law.proofs.Powers.{HeldAs}
 use Rattle.workers_source_law.specs.States.{States}
 use Rattle.workers_source_law.specs.Lines.{StartLines, TellsState, LinesMean}
-use Rattle.workers_source_law.specs.Law.{HasWordArgs, WorkerHolds, AllHold}
-use Rattle.workers_source_law.specs.Law.{PhasesHold}
+use Rattle.workers_source_law.specs.Law.{HasWordArgs, WorkerHolds, AllHold, PhasesHold}
 use Rattle.workers_source_law.proofs.Stills.{still, own, rest_stands}
 use Rattle.workers_source_law.proofs.AtWork.{IsAtWork, work_begins, work_owes}
 use Rattle.workers_source_law.proofs.Invariants.{UpAs, Stands, AllStand, changed, changed_own}
@@ -122,16 +121,16 @@ unmarked_of image is = (Decides-int_eq (image MARK) (pos 0)).0
     (unmarked_if (int_eq (image MARK) (pos 0)) (is_number (image DONE)
     && is_number (image ATTEMPT)) (trap_of_mark (image MARK)) is)
 
-module _ (program : Program) (super : Words) where
+module _ (program : Program) (supers : ℕ → Words) where
   -- a worker that takes a command
   record IsFree (worker : ℕ) (x : Scene) (s : States) : Type 0 where
     up : x.workers.down ≡ false
     less : worker < length x.workers.tasks
     standing : (s worker).standing ≡ Ready
     marked : AreMarked (own program worker x.device)
-    rests : IsResting program super (still (own program worker x.device)) (s worker)
+    rests : IsResting program (supers worker) (still (own program worker x.device)) (s worker)
 
-  free_at : (worker : ℕ) (x : Scene) (s : States) → AllStand program super x s
+  free_at : (worker : ℕ) (x : Scene) (s : States) → AllStand program supers x s
       → refusal_at program.image x.workers worker x.device ≡ None → IsFree worker x s
   free_at worker x s all none =
       let both = first_none (unready x.workers worker)
@@ -146,13 +145,13 @@ module _ (program : Program) (super : Words) where
     where
       go : x.workers.down ≡ false → worker < length x.workers.tasks
           → task_at x.workers.tasks worker ≡ None
-          → Stands program super x.workers.down (task_at x.workers.tasks worker)
+          → Stands program (supers worker) x.workers.down (task_at x.workers.tasks worker)
           (own program worker x.device) (s worker)
           → view (own program worker x.device) MARK ≡ pos 0
           → (st : Standing) → (s worker).standing ≡ st
-          → HeldAs st program super (still (own program worker x.device)) (s worker)
-          → UpAs st program super (task_at x.workers.tasks worker) (own program worker x.device)
-          (s worker) → IsFree worker x s
+          → HeldAs st program (supers worker) (still (own program worker x.device)) (s worker)
+          → UpAs st program (supers worker) (task_at x.workers.tasks worker)
+          (own program worker x.device) (s worker) → IsFree worker x s
       go up less idle is mark Ready standing held now = record {
         up = up;
         less = less;
@@ -171,22 +170,22 @@ module _ (program : Program) (super : Words) where
 
   -- there was no memory
   out_stands : (x y : Scene) (s : States) (lines : List WorkersLine)
-      → AllStand program super x s → RunsOut x lines y → AllStand program super y s
+      → AllStand program supers x s → RunsOut x lines y → AllStand program supers y s
   out_stands x y s lines all is =
-      subst (λ (v : Scene). AllStand program super v s) (sym is.1)
-      (λ j less. stands_down program super x.workers.down (task_at x.workers.tasks j)
+      subst (λ (v : Scene). AllStand program supers v s) (sym is.1)
+      (λ j less. stands_down program (supers j) x.workers.down (task_at x.workers.tasks j)
       (task_at x.workers.tasks j) (own program j x.device) (s j) (all j less))
 
-  same_stands : (x y : Scene) (s : States) → AllStand program super x s → y ≡ x
-      → AllStand program super y s
-  same_stands x y s all same = subst (λ (v : Scene). AllStand program super v s) (sym same) all
+  same_stands : (x y : Scene) (s : States) → AllStand program supers x s → y ≡ x
+      → AllStand program supers y s
+  same_stands x y s all same = subst (λ (v : Scene). AllStand program supers v s) (sym same) all
 
   module _ (agrees : Agrees program) (worker : ℕ) (name : List ℕ) (args : List ℤ)
       (words : AreWords args) (x y : Scene) (s : States) (lines : List WorkersLine)
-      (all : AllStand program super x s) where
+      (all : AllStand program supers x s) where
     abbrev Started : Type 0
     Started = (t : States) × StartLines program worker name args lines s t
-        × AllStand program super y t
+        × AllStand program supers y t
 
     refused_start : (l : WorkersLine) → StartLines program worker name args (l ∷ []) s s
         → RefusedWith l x lines y → Started
@@ -200,6 +199,9 @@ module _ (program : Program) (super : Words) where
     module _ (free : IsFree worker x s) (tx : ℕ) (named : call_number program name ≡ Some tx) where
       abbrev call : Pending
       call = record { tx = tx; args = args }
+
+      abbrev super : Words
+      super = supers worker
 
       abbrev owing : SourceState
       owing = standing_as (Down (Some call)) (s worker)
@@ -240,7 +242,7 @@ module _ (program : Program) (super : Words) where
                     others = changed_others worker owing s;
                   },
                 ),
-            others_stand program super worker x y s t is.count is.others aside
+            others_stand program supers worker x y s t is.count is.others aside
                 (changed_others worker owing s) free.up all
                 (λ less. subst (λ (u : SourceState). Stands program super y.workers.down
                 (task_at y.workers.tasks worker) (own program worker y.device) u)
@@ -305,10 +307,10 @@ module _ (program : Program) (super : Words) where
 
   -- `show` and `last`
   module _ (agrees : Agrees program) (worker : ℕ) (x y : Scene) (s : States)
-      (lines : List WorkersLine) (all : AllStand program super x s) where
+      (lines : List WorkersLine) (all : AllStand program supers x s) where
     abbrev Looked : Type 0
     Looked = (t : States) × (TellsState program (s worker) lines × (t ≡ s))
-        × AllStand program super y t
+        × AllStand program supers y t
 
     tells : (ls : List WorkersLine) → TellsState program (s worker) ls
         → Unchanged ls x lines y → Looked
@@ -357,10 +359,10 @@ module _ (program : Program) (super : Words) where
 
   -- what the compartments hold
 
-  holds_up : (st : Standing) (worker : ℕ) (o : Option Task) (d : Device) (s : SourceState)
-      → HeldAs st program super (still (own program worker d)) s
+  holds_up : (super : Words) (st : Standing) (worker : ℕ) (o : Option Task) (d : Device)
+      (s : SourceState) → HeldAs st program super (still (own program worker d)) s
       → UpAs st program super o (own program worker d) s → WorkerHolds st program worker o d s
-  holds_up Ready worker o d s held up = (
+  holds_up _ Ready worker o d s held up = (
     up.0,
     record {
       pool = up.1.holds.pool;
@@ -369,23 +371,23 @@ module _ (program : Program) (super : Words) where
       mark = up.1.before.good.mark;
     },
   )
-  holds_up (Down None) worker o d s held up = up
-  holds_up (Down (Some owed)) worker o d s held up = ap (λ (p : Option Task). is_some p) up.1
-  holds_up (Unusable kind) worker o d s held up = (
+  holds_up _ (Down None) worker o d s held up = up
+  holds_up _ (Down (Some owed)) worker o d s held up = ap (λ (p : Option Task). is_some p) up.1
+  holds_up _ (Unusable kind) worker o d s held up = (
     up,
     (at_view (Lost program.image.parts.sizes (trap_number kind)) (own program worker d) held).0,
   )
 
-  pub all_hold : (x : Scene) (s : States) → AllStand program super x s
+  pub all_hold : (x : Scene) (s : States) → AllStand program supers x s
       → AllHold program (record { scene = x; states = s })
   all_hold x s all up worker less =
-      holds_up (s worker).standing worker (task_at x.workers.tasks worker) x.device (s worker)
-      (all worker less).held ((all worker less).up up)
+      holds_up (supers worker) (s worker).standing worker (task_at x.workers.tasks worker) x.device
+      (s worker) (all worker less).held ((all worker less).up up)
 
   pub command_gives : (agrees : Agrees program) (c : WorkersCommand) (x y : Scene) (s : States)
-      (lines : List WorkersLine) → HasWordArgs c → AllStand program super x s
+      (lines : List WorkersLine) → HasWordArgs c → AllStand program supers x s
       → WorkersCommanded program c x lines y
-      → (t : States) × LinesMean program c x.device lines s t × AllStand program super y t
+      → (t : States) × LinesMean program c x.device lines s t × AllStand program supers y t
       × PhasesHold program c lines (record { scene = y; states = t })
   command_gives agrees (command.Start worker name args) x y s lines words all is =
       let done = start_gives agrees worker name args words x y s lines all
@@ -394,17 +396,17 @@ module _ (program : Program) (super : Words) where
       (λ w. refl) (λ kind. refl) program.image x.workers worker x.device) is in
       (done.0, done.1, done.2, tt)
   command_gives agrees (command.Turn workers) x y s lines words all is =
-      let done = turns_give program super agrees x.workers.down workers x y s lines refl all is in
+      let done = turns_give program supers agrees x.workers.down workers x y s lines refl all is in
       (done.0, done.1, done.2, done.3)
   command_gives agrees command.Finish x y s lines words all is =
-      let done = finish_gives program super agrees x.workers.down x y s lines refl all is in
+      let done = finish_gives program supers agrees x.workers.down x y s lines refl all is in
       (done.0, done.1, done.2, done.3)
   command_gives agrees (command.Stop left) x y s lines words all is =
       (s, (is.0, refl), same_stands (with_device (with_left left x.device) x) y s all is.1, tt)
   command_gives agrees (command.Fault at) x y s lines words all is =
       (s, (is.0, refl), same_stands (with_device (with_armed at x.device) x) y s all is.1, tt)
   command_gives agrees (command.Power choice) x y s lines words all is =
-      let done = powers_give program super agrees choice x y s lines all is in
+      let done = powers_give program supers agrees choice x y s lines all is in
       (done.0, done.1, done.2, tt)
   command_gives agrees (command.Show worker) x y s lines words all is =
       let done = show_gives agrees worker x y s lines all

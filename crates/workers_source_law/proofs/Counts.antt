@@ -114,8 +114,9 @@ module _ (image : Image) where
   finishes true x lines y is = same x y is.1
   finishes false x lines y is = turn_list (rounds_of is.0 (count x)) x lines y is.1
 
+module _ (program : Program) where
   recovers : (n worker : ℕ) (x : Scene) (lines : List WorkersLine) (y : Scene)
-      → RecoversFrom image worker n x lines y → count y ≡ count x
+      → RecoversFrom program worker n x lines y → count y ≡ count x
   recovers zero worker x lines y is = same x y is.1
   recovers (suc n) worker x lines y is =
       after (ends_power is.0) is.2 is.1 y is.5.0
@@ -123,7 +124,7 @@ module _ (image : Image) where
       ∙ is.3.count
 
   powers : (choice : Choice) (x : Scene) (lines : List WorkersLine) (y : Scene)
-      → PowersAll image choice x lines y → count y ≡ count x
+      → PowersAll program choice x lines y → count y ≡ count x
   powers choice x lines y is =
       fits (fallen 0 choice.picks) (bad (memory_of x.device) choice.picks) refl refl
     where
@@ -147,7 +148,7 @@ command_count program command.Finish x lines y is =
 command_count program (command.Stop left) x lines y is = ap (λ (z : Scene). count z) is.1
 command_count program (command.Fault at) x lines y is = ap (λ (z : Scene). count z) is.1
 command_count program (command.Power choice) x lines y is =
-    powers program.image choice x lines y is
+    powers program choice x lines y is
 command_count program (command.Show worker) x lines y is =
     shows program worker x lines y (refusal_at program.image x.workers worker x.device) is
 command_count program (command.Last worker) x lines y is =

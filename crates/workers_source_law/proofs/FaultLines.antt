@@ -16,12 +16,11 @@ use Rattle.pool_workers.specs.declared.answer.TurnAnswer.TheVariants as turned
 use Rattle.pool_workers.specs.declared.task.Task.{Task}
 use Rattle.pool_workers.specs.Crew.{Tasks, task_at, compartment, standing_at}
 use Rattle.workers_law.proofs.FaultCounts.{turn_faults}
-use Rattle.pm_machine.specs.declared.records.Policy.TheVariants.{EndPool}
 use Rattle.cnvm_session.specs.declared.answer.Answer.TheVariants as answer
 use Rattle.cnvm_session.specs.declared.program.Program.{Program}
 use Rattle.cnvm_session.specs.Commands.{call_number, tx_parameters, fallen}
 use Rattle.cnvm_session.specs.Outcomes.{answer_of_recovery}
-use Rattle.cnvm_session.specs.Marks.{rolls_back_of}
+use Rattle.cnvm_session.specs.Marks.{rolls_back_of, policy_of, owes_marked}
 use Rattle.cnvm_session.proofs.Recoveries.{recovery_counts}
 use Rattle.workers_script.specs.declared.command.WorkersCommand.TheVariants as command
 use Rattle.workers_session.specs.declared.line.WorkersLine.{WorkersLine}
@@ -30,12 +29,11 @@ use Rattle.workers_session.specs.WorkersState.{WorkersState, busy_line, marked_l
 use Rattle.workers_session.specs.WorkersState.{refused_first, refusal_at, stranger_in}
 use Rattle.workers_session.specs.WorkersCommands.{Scene, RefusedWith, Unchanged, RunsOut, Starts}
 use Rattle.workers_session.specs.WorkersCommands.{BeginsNamed, BeginsTo, BeginsBy, BeginsWith}
-use Rattle.workers_session.specs.WorkersCommands.{BeginsAs}
-use Rattle.workers_session.specs.WorkersCommands.{ShowsWorker, last_text_line, LastsWorker}
-use Rattle.workers_session.specs.WorkersCommands.{stopped_lines, turn_lines, TurnFor, TurnsOnce}
-use Rattle.workers_session.specs.WorkersCommands.{TurnList, TurnsKnown, TurnsGiven, rounds_of}
-use Rattle.workers_session.specs.WorkersCommands.{FinishesAll, ends_power, RecoversFrom, PowersAll}
-use Rattle.workers_session.specs.WorkersCommands.{cut_scene}
+use Rattle.workers_session.specs.WorkersCommands.{BeginsAs, ShowsWorker, last_text_line}
+use Rattle.workers_session.specs.WorkersCommands.{LastsWorker, stopped_lines, turn_lines, TurnFor}
+use Rattle.workers_session.specs.WorkersCommands.{TurnsOnce, TurnList, TurnsKnown, TurnsGiven}
+use Rattle.workers_session.specs.WorkersCommands.{rounds_of, FinishesAll, ends_power, RecoversFrom}
+use Rattle.workers_session.specs.WorkersCommands.{PowersAll, cut_scene, compartment_of}
 use Rattle.workers_source_law.specs.FaultsTold.{is_fault, names_fault, TellsFault, BlamesRightly}
 use Rattle.workers_source_law.specs.FaultsTold.{ToldFaultLaw, RunFaultLaw}
 
@@ -265,12 +263,14 @@ module _ (image : Image) where
   finishes false x lines y is =
       turn_list (rounds_of is.0 (length x.workers.tasks)) x lines y is.1
 
+module _ (program : Program) where
   recovers : (n worker : ℕ) (x : Scene) (lines : List WorkersLine) (y : Scene)
-      → RecoversFrom image worker n x lines y → BlamesRightly x lines y
+      → RecoversFrom program worker n x lines y → BlamesRightly x lines y
   recovers zero worker x lines y is = unchanged x [] lines y (λ none. none) is
   recovers (suc n) worker x lines y is =
-      let counts = recovery_counts is.0 EndPool image (compartment image worker x.device)
-      (compartment image worker is.2.device) x.steps is.2.steps is.3.recovered in
+      let policy = policy_of (owes_marked program (compartment_of program worker x)) in
+      let counts = recovery_counts is.0 policy program.image (compartment_of program worker x)
+      (compartment_of program worker is.2) x.steps is.2.steps is.3.recovered in
       joined x is.2 y (line.Own worker (answer_of_recovery is.0) ∷ []) is.1 lines (
         counts.0,
         λ told.
@@ -281,7 +281,7 @@ module _ (image : Image) where
       (λ on. recovers n (suc worker) is.2 is.1 y (is.5.1 on))) is.4
 
   powers : (choice : Choice) (x : Scene) (lines : List WorkersLine) (y : Scene)
-      → PowersAll image choice x lines y → BlamesRightly x lines y
+      → PowersAll program choice x lines y → BlamesRightly x lines y
   powers choice x lines y is =
       fits (fallen 0 choice.picks) (bad (memory_of x.device) choice.picks) refl refl
     where
@@ -307,7 +307,7 @@ told_fault program (command.Stop left) x y lines is =
 told_fault program (command.Fault at) x y lines is =
     still x lines [] y is.0 (λ none. none) (ap (λ (s : Scene). s.device.faults) is.1)
 told_fault program (command.Power choice) x y lines is =
-    powers program.image choice x lines y is
+    powers program choice x lines y is
 told_fault program (command.Show worker) x y lines is =
     shows program worker x lines y (refusal_at program.image x.workers worker x.device)
     (refusal_quiet program.image x.workers worker x.device) is

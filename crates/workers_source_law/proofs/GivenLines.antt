@@ -13,6 +13,7 @@ use Rattle.pool_workers.specs.declared.answer.TurnAnswer.TheVariants as turned
 use Rattle.pool_workers.specs.Crew.{Tasks}
 use Rattle.cnvm_session.specs.declared.answer.Answer.{Answer}
 use Rattle.cnvm_session.specs.declared.answer.Answer.TheVariants as answer
+use Rattle.cnvm_session.specs.declared.program.Program.{Program}
 use Rattle.cnvm_session.specs.Commands.{fallen}
 use Rattle.cnvm_session.specs.Outcomes.{answer_of_recovery}
 use Rattle.workers_session.specs.declared.line.WorkersLine.{WorkersLine}
@@ -144,9 +145,9 @@ no_more : (over : Bool) (z : Scene) (rest : List WorkersLine) (y : Scene)
 no_more true z rest y ends goes = subst NameNoPick (sym (ends refl).0) tt
 no_more false z rest y ends goes = goes refl
 
-module _ (parts : Image) where
+module _ (program : Program) where
   recovers : (n worker : ℕ) (x : Scene) (lines : List WorkersLine) (y : Scene)
-      → RecoversFrom parts worker n x lines y → NameNoPick lines
+      → RecoversFrom program worker n x lines y → NameNoPick lines
   recovers zero worker x lines y is = subst NameNoPick (sym is.0) tt
   recovers (suc n) worker x lines y is =
       subst NameNoPick (sym is.4) (
@@ -156,7 +157,7 @@ module _ (parts : Image) where
       )
 
   pub powers_say : (choice : Choice) (x : Scene) (lines : List WorkersLine) (y : Scene)
-      → PowersAll parts choice x lines y → NameNoPick lines
+      → PowersAll program choice x lines y → NameNoPick lines
   powers_say choice x lines y is =
       fits (fallen 0 choice.picks) (bad (memory_of x.device) choice.picks) refl refl
     where

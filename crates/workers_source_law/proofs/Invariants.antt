@@ -1,7 +1,6 @@
 -- What is kept of each worker between two commands, and what another worker's events leave of it.
-use Rattle.std.proofs.Common.{◌≡◌, ◌≢◌, ⊎_elim, ℕ, ◌<◌, Bool, true, false, ◌==◌, cond}
-use Rattle.std.proofs.Common.{length, Option, Some, None, refl, sym, ap, ◌∙◌, subst, arith}
-use Rattle.std.proofs.Common.{ne_eqb, eq-eqb}
+use Rattle.std.proofs.Common.{◌≡◌, ◌≢◌, ⊎_elim, ℕ, ◌<◌, Bool, true, false, ◌==◌, cond, length}
+use Rattle.std.proofs.Common.{Option, Some, None, refl, sym, ap, ◌∙◌, subst, arith, ne_eqb, eq-eqb}
 use Rattle.std.proofs.lemmas.Bool.{cases_eq}
 use Rattle.cache_model.specs.Cache.{Words, Cache}
 use Rattle.cache_model.specs.Image.{Images}
@@ -25,16 +24,9 @@ use Rattle.session_law.specs.Holds.{IsResting, OwesBy}
 use Rattle.session_law.proofs.Resting.{resting_owes}
 use Rattle.session_law.proofs.Powers.{HeldAs}
 use Rattle.workers_source_law.specs.States.{States, RestStays}
-use Rattle.workers_source_law.proofs.Stills.{still, own, fewer_fenced, marks_fenced}
-use Rattle.workers_source_law.proofs.Stills.{rest_fenced, fewer_held}
+use Rattle.workers_source_law.proofs.Stills.{still, own, fewer_fenced, marks_fenced, rest_fenced}
+use Rattle.workers_source_law.proofs.Stills.{fewer_held}
 use Rattle.workers_source_law.proofs.AtWork.{IsAtWork, work_fenced}
-
--- a transaction that is owed isn't marked
-abbrev pub PlainAs : Program → Standing → Type 0
-PlainAs program Ready = Unit {0}
-PlainAs program (Down None) = Unit {0}
-PlainAs program (Down (Some owed)) = rolls_back_of program owed.tx ≡ false
-PlainAs program (Unusable kind) = Unit {0}
 
 -- while the workers aren't down
 abbrev pub UpAs : Standing → Program → Words → Option Task → Cache → SourceState → Type 0
@@ -49,13 +41,14 @@ pub record Stands (program : Program) (super : Words) (down : Bool) (o : Option 
     (s : SourceState) : Type 0 where
   pub marked : AreMarked c
   pub held : HeldAs s.standing program super (still c) s
-  pub plain : PlainAs program s.standing
   pub up : down ≡ false → UpAs s.standing program super o c s
 
-abbrev pub AllStand : Program → Words → Scene → States → Type 0
-AllStand program super x s =
+-- so it is for each; the words of lines 0 and 1 are the compartment's own
+abbrev pub AllStand : Program → (supers : ℕ → Words) → Scene → States → Type 0
+AllStand program supers x s =
     (j : ℕ) → j < length x.workers.tasks →
-    Stands program super x.workers.down (task_at x.workers.tasks j) (own program j x.device) (s j)
+    Stands program (supers j) x.workers.down (task_at x.workers.tasks j) (own program j x.device)
+    (s j)
 
 -- states with another one for a worker
 
@@ -84,7 +77,6 @@ module _ (program : Program) (super : Words) where
     marked = marks_fenced k c is.marked;
     held = fewer_held program super s.standing (still c) (still (fenced_cache k c)) s
         (fewer_fenced k c) is.held;
-    plain = is.plain;
     up = λ up. up_fenced s.standing o k c s (is.up up);
   }
 
@@ -94,7 +86,6 @@ module _ (program : Program) (super : Words) where
   stands_down down o p c s is = record {
     marked = is.marked;
     held = is.held;
-    plain = is.plain;
     up = λ up. absurd cc;
   }
 
@@ -134,7 +125,6 @@ module _ (program : Program) (super : Words) where
     marked = marked;
     held = subst (λ (st : Standing). HeldAs st program super (still c) s) (sym standing)
         (subst (λ (b : Bool). OwesBy b program super call (still c) s) (sym plain) owes);
-    plain = subst (PlainAs program) (sym standing) plain;
     up = λ is. subst (λ (st : Standing). UpAs st program super o c s) (sym standing) (up is);
   }
 
@@ -144,7 +134,6 @@ module _ (program : Program) (super : Words) where
     marked = marked;
     held = subst (λ (st : Standing). HeldAs st program super (still c) s) (sym standing)
         (resting_owes program super (still c) s rests);
-    plain = subst (PlainAs program) (sym standing) tt;
     up = λ is. subst (λ (st : Standing). UpAs st program super None c s) (sym standing)
         (refl, rests);
   }
@@ -156,10 +145,10 @@ module _ (program : Program) (super : Words) where
   stands_lost down c s kind standing marked lost = record {
     marked = marked;
     held = subst (λ (st : Standing). HeldAs st program super (still c) s) (sym standing) lost;
-    plain = subst (PlainAs program) (sym standing) tt;
     up = λ is. subst (λ (st : Standing). UpAs st program super None c s) (sym standing) refl;
   }
 
+module _ (program : Program) where
   -- another worker's compartment
   pub record IsAside (j : ℕ) (d b : Device) : Type 0 where
     pub fenced : Bool
@@ -176,30 +165,31 @@ module _ (program : Program) (super : Words) where
   }
 
   -- a worker's events leave the others as they were
-  pub others_stand : (worker : ℕ) (x y : Scene) (s t : States)
+  pub others_stand : (supers : ℕ → Words) (worker : ℕ) (x y : Scene) (s t : States)
       → length y.workers.tasks ≡ length x.workers.tasks
       → OtherTasksStay worker x.workers.tasks y.workers.tasks
       → StaysAside program.image worker x.device y.device → RestStays worker s t
-      → x.workers.down ≡ false → AllStand program super x s
-      → (worker < length x.workers.tasks → Stands program super y.workers.down
+      → x.workers.down ≡ false → AllStand program supers x s
+      → (worker < length x.workers.tasks → Stands program (supers worker) y.workers.down
       (task_at y.workers.tasks worker) (own program worker y.device) (t worker))
-      → AllStand program super y t
-  others_stand worker x y s t count tasks aside stay up all mine j less =
+      → AllStand program supers y t
+  others_stand supers worker x y s t count tasks aside stay up all mine j less =
       ⊎_elim
-      (λ (e : j ≡ worker). subst (λ (i : ℕ). Stands program super y.workers.down
+      (λ (e : j ≡ worker). subst (λ (i : ℕ). Stands program (supers i) y.workers.down
       (task_at y.workers.tasks i) (own program i y.device) (t i)) (sym e)
       (mine (omega (arith, e, less, count))))
       (λ (ne : j ≢ worker).
       let there = other_aside worker j x.device y.device ne aside in
-      subst (λ (u : SourceState). Stands program super y.workers.down (task_at y.workers.tasks j)
-      (own program j y.device) u) (sym (stay j ne))
-      (subst (λ (o : Option Task). Stands program super y.workers.down o
+      subst (λ (u : SourceState). Stands program (supers j) y.workers.down
+      (task_at y.workers.tasks j) (own program j y.device) u) (sym (stay j ne))
+      (subst (λ (o : Option Task). Stands program (supers j) y.workers.down o
       (own program j y.device) (s j)) (sym (tasks j ne))
-      (subst (λ (c : Cache). Stands program super y.workers.down (task_at x.workers.tasks j) c
+      (subst (λ (c : Cache). Stands program (supers j) y.workers.down (task_at x.workers.tasks j) c
       (s j)) (sym there.now)
-      (stands_either y.workers.down (task_at x.workers.tasks j)
+      (stands_either program (supers j) y.workers.down (task_at x.workers.tasks j)
       (fenced_cache there.fenced (own program j x.device)) (s j)
-      (stands_fenced false (task_at x.workers.tasks j) there.fenced (own program j x.device) (s j)
-      (subst (λ (down : Bool). Stands program super down (task_at x.workers.tasks j)
+      (stands_fenced program (supers j) false (task_at x.workers.tasks j) there.fenced
+      (own program j x.device) (s j)
+      (subst (λ (down : Bool). Stands program (supers j) down (task_at x.workers.tasks j)
       (own program j x.device) (s j)) up (all j (omega (arith, less, count)))))))))
       (cases_eq j worker)

@@ -7,6 +7,7 @@ pub mod Recoveries
 pub mod Powering
 pub mod Commands
 pub mod Runs
+pub mod Opened
 pub mod Scripts
 pub mod FaultLines
 pub mod Counts

@@ -18,6 +18,7 @@ use Rattle.workers_law.proofs.Powers.{power, fenced}
 use Rattle.cnvm_session.specs.declared.answer.Answer.TheVariants as answer
 use Rattle.cnvm_session.specs.declared.program.Program.{Program}
 use Rattle.cnvm_session.specs.Commands.{fallen}
+use Rattle.cnvm_session.specs.Marks.{policy_of, owes_marked}
 use Rattle.cnvm_session.specs.Outcomes.{answer_of_recovery}
 use Rattle.workers_session.specs.declared.line.WorkersLine.{WorkersLine}
 use Rattle.workers_session.specs.declared.line.WorkersLine.TheVariants as line
@@ -48,37 +49,42 @@ module _ (program : Program) (super : Words) where
   stands_kept true down o c s is = is
   stands_kept false down o c s is = stands_either program super down o c s is
 
-  module _ (agrees : Agrees program) (cut : Device) where
-    -- the compartments below w are recovered, and the others are as the power cut left them
-    record IsHalf (w : ℕ) (z : Scene) (s : States) : Type 0 where
-      done : (j : ℕ) → j < length z.workers.tasks → j < w →
-          Stands program super z.workers.down (task_at z.workers.tasks j)
+module _ (program : Program) (supers : ℕ → Words) where
+  module _ (agrees : Agrees program) (images : ℕ → Words) where
+    -- the compartments below w are recovered, and the others still have these images
+    pub record IsHalf (w : ℕ) (z : Scene) (s : States) : Type 0 where
+      pub done : (j : ℕ) → j < length z.workers.tasks → j < w →
+          Stands program (supers j) z.workers.down (task_at z.workers.tasks j)
           (own program j z.device) (s j)
-      left : (j : ℕ) → j < length z.workers.tasks → w ≤ j →
-          IsLeft program super (own program j z.device) (s j)
-      seen : (j : ℕ) → w ≤ j → view (own program j z.device) ≡ view (own program j cut)
+      pub left : (j : ℕ) → j < length z.workers.tasks → w ≤ j →
+          IsLeft program (supers j) (own program j z.device) (s j)
+      pub seen : (j : ℕ) → j < length z.workers.tasks → w ≤ j
+          → view (own program j z.device) ≡ images j
 
     half_down : (w : ℕ) (z : Scene) (s : States) → IsHalf w z s → z.workers.down ≡ true
-        → AllStand program super z s
+        → AllStand program supers z s
     half_down w z s half down j less = go (nat_lt j w) refl
       where
-        go : (b : Bool) → nat_lt j w ≡ b → Stands program super z.workers.down
+        go : (b : Bool) → nat_lt j w ≡ b → Stands program (supers j) z.workers.down
             (task_at z.workers.tasks j) (own program j z.device) (s j)
         go true is = half.done j less (ltb-true j w is)
         go false is =
-            subst (λ (d : Bool). Stands program super d (task_at z.workers.tasks j)
+            subst (λ (d : Bool). Stands program (supers j) d (task_at z.workers.tasks j)
             (own program j z.device) (s j)) (sym down)
-            (left_stands program super (task_at z.workers.tasks j) (own program j z.device) (s j)
-            (half.left j less (ltb-false j w is)))
+            (left_stands program (supers j) (task_at z.workers.tasks j)
+            (own program j z.device) (s j) (half.left j less (ltb-false j w is)))
 
     abbrev Gives : ℕ → States → List WorkersLine → Scene → Type 0
     Gives w s lines y =
-        (t : States) × RecoveryLines program cut w lines s t × AllStand program super y t
+        (t : States) × RecoveryLines program images w lines s t × AllStand program supers y t
 
     module _ (worker : ℕ) (x z : Scene) (s : States) (a : RecoverAnswer)
         (half : IsHalf worker x s) (on : x.device.on ≡ true)
         (less : worker < length x.workers.tasks)
-        (one : RecoversOne program.image worker a x z) where
+        (one : RecoversOne program worker a x z) where
+      abbrev super : Words
+      super = supers worker
+
       mine : IsLeft program super (own program worker x.device) (s worker)
       mine = half.left worker less (omega arith)
 
@@ -94,16 +100,16 @@ module _ (program : Program) (super : Words) where
 
       still_on : ends_power a ≡ false → z.device.on ≡ true
       still_on = (recovered_kept (compartment program.image worker x.device)
-          (compartment program.image worker z.device) mine.marked on a program.image x.steps
-          z.steps one.recovered).on
+          (compartment program.image worker z.device) mine.marked on a
+          (policy_of (owes_marked program (compartment program.image worker x.device)))
+          program.image x.steps z.steps one.recovered).on
 
-      told : Powers program (s worker) (worker_image program worker cut) (answer_of_recovery a)
-          (after_it worker)
+      told : Powers program (s worker) (images worker) (answer_of_recovery a) (after_it worker)
       told =
-          subst (λ (u : SourceState). Powers program (s worker) (worker_image program worker cut)
+          subst (λ (u : SourceState). Powers program (s worker) (images worker)
           (answer_of_recovery a) u) (sym (changed_own worker given.0 s))
           (subst (λ (v : Words). Powers program (s worker) v (answer_of_recovery a) given.0)
-          (half.seen worker (omega arith)) given.1)
+          (half.seen worker less (omega arith)) given.1)
 
       its_own : Stands program super z.workers.down (task_at z.workers.tasks worker)
           (own program worker z.device) (after_it worker)
@@ -115,61 +121,61 @@ module _ (program : Program) (super : Words) where
           (own program worker z.device) given.0) (sym one.dropped)
           (subst (λ (b : Bool). Stands program super b None (own program worker z.device) given.0)
           (sym one.down)
-          (stands_kept (keeps_down a) x.workers.down None (own program worker z.device) given.0
-          given.2)))
+          (stands_kept program super (keeps_down a) x.workers.down None
+          (own program worker z.device) given.0 given.2)))
 
-      other : (j : ℕ) → j ≢ worker → IsAside program super j x.device z.device
-      other j ne = other_aside program super worker j x.device z.device ne one.aside
+      other : (j : ℕ) → j ≢ worker → IsAside program j x.device z.device
+      other j ne = other_aside program worker j x.device z.device ne one.aside
 
       next : IsHalf (suc worker) z after_it
       next = record {
         done = λ j fits below. ⊎_elim
-            (λ (e : j ≡ worker). subst (λ (i : ℕ). Stands program super z.workers.down
+            (λ (e : j ≡ worker). subst (λ (i : ℕ). Stands program (supers i) z.workers.down
             (task_at z.workers.tasks i) (own program i z.device) (after_it i)) (sym e) its_own)
             (λ (ne : j ≢ worker). earlier j fits below ne) (cases_eq j worker);
         left = λ j fits more. later j fits more (λ e. absurd (omega (arith, e, more)));
-        seen = λ j more. looks j more (λ e. absurd (omega (arith, e, more)));
+        seen = λ j fits more. looks j fits more (λ e. absurd (omega (arith, e, more)));
       }
         where
           earlier : (j : ℕ) → j < length z.workers.tasks → j < suc worker → j ≢ worker
-              → Stands program super z.workers.down (task_at z.workers.tasks j)
+              → Stands program (supers j) z.workers.down (task_at z.workers.tasks j)
               (own program j z.device) (after_it j)
           earlier j fits below ne =
               let there = other j ne in
-              subst (λ (u : SourceState). Stands program super z.workers.down
+              subst (λ (u : SourceState). Stands program (supers j) z.workers.down
               (task_at z.workers.tasks j) (own program j z.device) u)
               (sym (changed_others worker given.0 s j ne))
-              (subst (λ (o : Option Task). Stands program super z.workers.down o
+              (subst (λ (o : Option Task). Stands program (supers j) z.workers.down o
               (own program j z.device) (s j)) (sym (one.others j ne))
-              (subst (λ (c : Cache). Stands program super z.workers.down (task_at x.workers.tasks j)
-              c (s j)) (sym there.now)
-              (subst (λ (b : Bool). Stands program super b (task_at x.workers.tasks j)
+              (subst (λ (c : Cache). Stands program (supers j) z.workers.down
+              (task_at x.workers.tasks j) c (s j)) (sym there.now)
+              (subst (λ (b : Bool). Stands program (supers j) b (task_at x.workers.tasks j)
               (fenced_cache there.fenced (own program j x.device)) (s j)) (sym one.down)
-              (stands_flag x.workers.down (keeps_down a) (task_at x.workers.tasks j)
-              (fenced_cache there.fenced (own program j x.device)) (s j)
-              (stands_fenced program super x.workers.down (task_at x.workers.tasks j) there.fenced
-              (own program j x.device) (s j)
+              (stands_flag program (supers j) x.workers.down (keeps_down a)
+              (task_at x.workers.tasks j) (fenced_cache there.fenced (own program j x.device)) (s j)
+              (stands_fenced program (supers j) x.workers.down (task_at x.workers.tasks j)
+              there.fenced (own program j x.device) (s j)
               (half.done j (let count = one.count in omega arith) (lower j below ne)))))))
             where
               lower : (j : ℕ) → j < suc worker → j ≢ worker → j < worker
               lower j below ne = grind arith
 
           later : (j : ℕ) → j < length z.workers.tasks → suc worker ≤ j → j ≢ worker
-              → IsLeft program super (own program j z.device) (after_it j)
+              → IsLeft program (supers j) (own program j z.device) (after_it j)
           later j fits more ne =
               let there = other j ne in
-              subst (λ (u : SourceState). IsLeft program super (own program j z.device) u)
+              subst (λ (u : SourceState). IsLeft program (supers j) (own program j z.device) u)
               (sym (changed_others worker given.0 s j ne))
-              (subst (λ (c : Cache). IsLeft program super c (s j)) (sym there.now)
-              (left_fenced program super there.fenced (own program j x.device) (s j)
+              (subst (λ (c : Cache). IsLeft program (supers j) c (s j)) (sym there.now)
+              (left_fenced program (supers j) there.fenced (own program j x.device) (s j)
               (half.left j (let count = one.count in omega arith) (omega arith))))
 
-          looks : (j : ℕ) → suc worker ≤ j → j ≢ worker
-              → view (own program j z.device) ≡ view (own program j cut)
-          looks j more ne =
+          looks : (j : ℕ) → j < length z.workers.tasks → suc worker ≤ j → j ≢ worker
+              → view (own program j z.device) ≡ images j
+          looks j fits more ne =
               let there = other j ne in
               ap view there.now ∙ (fenced there.fenced (own program j x.device)).1
-              ∙ half.seen j (omega arith)
+              ∙ half.seen j (let count = one.count in omega arith) (omega arith)
 
     by_over : (w : ℕ) (y z : Scene) (r : States) (rest : List WorkersLine) (a : RecoverAnswer)
         → IsHalf w z r → (ends_power a ≡ true → z.workers.down ≡ true)
@@ -179,8 +185,9 @@ module _ (program : Program) (super : Words) where
     by_over w y z r rest a half down over goes true is =
         let same = over is in (
           r,
-          subst (λ (ls : List WorkersLine). RecoveryLines program cut w ls r r) (sym same.0) refl,
-          subst (λ (v : Scene). AllStand program super v r) (sym same.1)
+          subst (λ (ls : List WorkersLine). RecoveryLines program images w ls r r) (sym same.0)
+              refl,
+          subst (λ (v : Scene). AllStand program supers v r) (sym same.1)
               (half_down w z r half (down is)),
         )
     by_over w y z r rest a half down over goes false is = goes is
@@ -191,13 +198,13 @@ module _ (program : Program) (super : Words) where
     down_if a down now is over =
         is ∙ ap (λ (b : Bool). if b then true else down) (ends_keeps a over)
 
-    recoveries_give : (n worker : ℕ) (x y : Scene) (s : States) (lines : List WorkersLine)
+    pub recoveries_give : (n worker : ℕ) (x y : Scene) (s : States) (lines : List WorkersLine)
         → worker + n ≡ length x.workers.tasks → IsHalf worker x s → x.device.on ≡ true
-        → RecoversFrom program.image worker n x lines y → Gives worker s lines y
+        → RecoversFrom program worker n x lines y → Gives worker s lines y
     recoveries_give zero worker x y s lines count half on is = (
       s,
-      subst (λ (ls : List WorkersLine). RecoveryLines program cut worker ls s s) (sym is.0) refl,
-      subst (λ (v : Scene). AllStand program super v s) (sym is.1)
+      subst (λ (ls : List WorkersLine). RecoveryLines program images worker ls s s) (sym is.0) refl,
+      subst (λ (v : Scene). AllStand program supers v s) (sym is.1)
           (λ j less. half.done j less (omega arith)),
     )
     recoveries_give (suc n) worker x y s lines count half on is =
@@ -213,7 +220,7 @@ module _ (program : Program) (super : Words) where
         (next worker x z s a half on less one)
         (still_on worker x z s a half on less one goes) (is.5.1 goes)) (ends_power a) refl in (
           more.0,
-          subst (λ (ls : List WorkersLine). RecoveryLines program cut worker ls s more.0)
+          subst (λ (ls : List WorkersLine). RecoveryLines program images worker ls s more.0)
               (sym is.4) (
                 answer_of_recovery a,
                 r,
@@ -225,46 +232,51 @@ module _ (program : Program) (super : Words) where
           more.2,
         )
 
+  -- the images that a power cut leaves
+  abbrev images_left : Device → ℕ → Words
+  images_left cut worker = worker_image program worker cut
+
   pub powers_give : (agrees : Agrees program) (choice : Choice) (x y : Scene) (s : States)
-      (lines : List WorkersLine) → AllStand program super x s
-      → PowersAll program.image choice x lines y
+      (lines : List WorkersLine) → AllStand program supers x s
+      → PowersAll program choice x lines y
       → (t : States) × PowerLines program (powered choice x.device) lines s t
-      × AllStand program super y t
+      × AllStand program supers y t
   powers_give agrees choice x y s lines all is =
       fits (fallen 0 choice.picks) (bad (memory_of x.device) choice.picks) refl refl
     where
       refused : (at : ℕ) → lines ≡ line.Plain (answer.RefusedPick at) ∷ [] → y ≡ x
           → (t : States) × PowerLines program (powered choice x.device) lines s t
-          × AllStand program super y t
+          × AllStand program supers y t
       refused at told same = (
         s,
         inl (at, told, refl),
-        subst (λ (v : Scene). AllStand program super v s) (sym same) all,
+        subst (λ (v : Scene). AllStand program supers v s) (sym same) all,
       )
 
-      begins : IsHalf agrees (powered choice x.device) 0 (cut_scene choice x) s
+      begins : IsHalf agrees (images_left (powered choice x.device)) 0 (cut_scene choice x) s
       begins = record {
         done = λ j fits below. absurd (omega (arith, below));
         left = λ j fits more.
-            subst (λ (c : Cache). IsLeft program super c (s j))
+            subst (λ (c : Cache). IsLeft program (supers j) c (s j))
             (sym (power (first_line program.image.parts.sizes j)
             (pool_lines program.image.parts.sizes) x.device.cache choice.rest choice.picks).0)
-            (left_cut program super x.workers.down (task_at x.workers.tasks j)
+            (left_cut program (supers j) x.workers.down (task_at x.workers.tasks j)
             (own program j x.device) (s j) choice.rest
             (picks_in (first_line program.image.parts.sizes j)
             (pool_lines program.image.parts.sizes) choice.picks) (all j fits));
-        seen = λ j more. refl;
+        seen = λ j fits more. refl;
       }
 
       fits : (falls lacks : Option ℕ) → fallen 0 choice.picks ≡ falls
           → bad (memory_of x.device) choice.picks ≡ lacks
           → (t : States) × PowerLines program (powered choice x.device) lines s t
-          × AllStand program super y t
+          × AllStand program supers y t
       fits (Some l) lacks falls is_bad =
           let why = is.0 l falls in refused l why.0 why.1
       fits None (Some l) falls is_bad =
           let why = is.1 l falls is_bad in refused l why.0 why.1
       fits None None falls is_bad =
-          let done = recoveries_give agrees (powered choice x.device) (length x.workers.tasks) 0
-          (cut_scene choice x) y s lines (omega arith) begins refl (is.2 falls is_bad) in
+          let done = recoveries_give agrees (images_left (powered choice x.device))
+          (length x.workers.tasks) 0 (cut_scene choice x) y s lines (omega arith) begins refl
+          (is.2 falls is_bad) in
           (done.0, inr done.1, done.2)

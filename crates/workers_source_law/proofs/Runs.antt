@@ -1,6 +1,6 @@
 -- A run of a script is a chain of commands, from new compartments on.
-use Rattle.std.proofs.Common.{◌≡◌, inl, inr, ℕ, zero, suc, false, List, [], ◌∷◌}
-use Rattle.std.proofs.Common.{length, replicate, Option, None, refl, sym, ap, subst, arith}
+use Rattle.std.proofs.Common.{◌≡◌, inl, inr, ℕ, zero, suc, false, List, [], ◌∷◌, length, replicate}
+use Rattle.std.proofs.Common.{Option, None, refl, sym, ap, subst, arith}
 use Rattle.std.specs.List.{AllByRecursion}
 use Rattle.cache_model.specs.Event.{CacheEvent}
 use Rattle.cache_model.specs.Cache.{Words, Cache, blank}
@@ -20,15 +20,16 @@ use Rattle.cnvm_session.specs.Pool.{sizes_of}
 use Rattle.workers_script.specs.declared.command.WorkersCommand.{WorkersCommand}
 use Rattle.workers_session.specs.WorkersCommands.{Scene, scene_of}
 use Rattle.workers_session.proofs.Crews.{idle_at}
-use Rattle.workers_run.specs.WorkersRan.{RunsWorkers, BreaksOff, AreCreated, new_workers}
+use Rattle.workers_session.specs.WorkersState.{new_workers}
+use Rattle.workers_run.specs.WorkersRan.{RunsWorkers, BreaksOff, AreCreated}
 use Rattle.session_law.specs.Agrees.{Agrees}
 use Rattle.session_law.specs.State.{created}
 use Rattle.session_law.specs.Holds.{IsResting}
 use Rattle.session_law.specs.Law.{super_words}
 use Rattle.session_law.proofs.Creating.{created_rests}
 use Rattle.workers_source_law.specs.States.{States, all_created}
-use Rattle.workers_source_law.specs.Law.{HasWordArgs, RanWorkers, BrokeOff}
-use Rattle.workers_source_law.specs.Law.{WorkersLaw, WorkersPartLaw}
+use Rattle.workers_source_law.specs.Law.{HasWordArgs, RanWorkers, BrokeOff, WorkersLaw}
+use Rattle.workers_source_law.specs.Law.{WorkersPartLaw}
 use Rattle.workers_source_law.proofs.Stills.{still, own, marks_play, rest_same}
 use Rattle.workers_source_law.proofs.Invariants.{Stands, AllStand, stands_rest}
 use Rattle.workers_source_law.proofs.Recoveries.{still_rest}
@@ -44,6 +45,10 @@ module _ (program : Program) where
   abbrev super : Words
   super = super_words program
 
+  -- the words of lines 0 and 1 of new compartments
+  abbrev pub new_supers : ℕ → Words
+  new_supers worker = super_words program
+
   abbrev events : List CacheEvent
   events = creation_events (sizes_of program) program.digest
 
@@ -57,7 +62,7 @@ module _ (program : Program) where
       (created_rests program (quiet_on n blank) (quiet_on n made) (plays_quiet n events blank)).1
 
   new_stands : (count : ℕ) (d b : Device) (k : ℕ) → AreCreated program count d b
-      → AllStand program super (scene_of (new_workers count) b k) (all_created program)
+      → AllStand program new_supers (scene_of (new_workers count) b k) (all_created program)
   new_stands count d b k is j less =
       let shown : ShowsPlayed events [] blank (own program j b) =
       laws.created (sizes_of program) program.digest count d b is j
@@ -70,17 +75,17 @@ module _ (program : Program) where
       (rest_same program super made (own program j b) (created program)
       (looks.2 shown made_rests.rest) (looks.3 shown) made_rests))
 
-  module _ (agrees : Agrees program) where
-    runs_give : (commands : List WorkersCommand) (x y : Scene) (s : States)
+  module _ (supers : ℕ → Words) (agrees : Agrees program) where
+    pub runs_give : (commands : List WorkersCommand) (x y : Scene) (s : States)
         (w w' : Option (List ℕ)) → AllByRecursion HasWordArgs commands
-        → AllStand program super x s → RunsWorkers program commands x w y w'
+        → AllStand program supers x s → RunsWorkers program commands x w y w'
         → (t : States) × RanWorkers program commands (record { scene = x; states = s }) w
         (record { scene = y; states = t }) w'
     runs_give [] x y s w w' words all is =
         (s, (λ i. record { scene = is.0 i; states = s }, is.1))
     runs_give (c ∷ commands) x y s w w' words all is =
         let z = is.1 in
-        let one = command_gives program super agrees c x z s is.0 words.0 all is.3 in
+        let one = command_gives program supers agrees c x z s is.0 words.0 all is.3 in
         let more = runs_give commands z y one.0 is.2 w' words.1 one.2 is.5 in (
           more.0,
           (
@@ -90,7 +95,7 @@ module _ (program : Program) where
             record {
               did = is.3;
               meant = one.1;
-              holds = all_hold program super z one.0 one.2;
+              holds = all_hold program supers z one.0 one.2;
               phases = one.3;
             },
             is.4,
@@ -98,21 +103,21 @@ module _ (program : Program) where
           ),
         )
 
-    breaks_give : (commands : List WorkersCommand) (x y : Scene) (s : States)
+    pub breaks_give : (commands : List WorkersCommand) (x y : Scene) (s : States)
         (w w' : Option (List ℕ)) → AllByRecursion HasWordArgs commands
-        → AllStand program super x s → BreaksOff program commands x w y w'
+        → AllStand program supers x s → BreaksOff program commands x w y w'
         → (t : States) × BrokeOff program commands (record { scene = x; states = s }) w
         (record { scene = y; states = t }) w'
     breaks_give [] x y s w w' words all is = absurd is
     breaks_give (c ∷ commands) x y s w w' words all (inl is) =
-        let one = command_gives program super agrees c x y s is.0 words.0 all is.1 in (
+        let one = command_gives program supers agrees c x y s is.0 words.0 all is.1 in (
           one.0,
           inl (
             is.0,
             record {
               did = is.1;
               meant = one.1;
-              holds = all_hold program super y one.0 one.2;
+              holds = all_hold program supers y one.0 one.2;
               phases = one.3;
             },
             is.2,
@@ -120,7 +125,7 @@ module _ (program : Program) where
         )
     breaks_give (c ∷ commands) x y s w w' words all (inr is) =
         let z = is.1 in
-        let one = command_gives program super agrees c x z s is.0 words.0 all is.3 in
+        let one = command_gives program supers agrees c x z s is.0 words.0 all is.3 in
         let more = breaks_give commands z y one.0 is.2 w' words.1 one.2 is.5 in (
           more.0,
           inr (
@@ -130,7 +135,7 @@ module _ (program : Program) where
             record {
               did = is.3;
               meant = one.1;
-              holds = all_hold program super z one.0 one.2;
+              holds = all_hold program supers z one.0 one.2;
               phases = one.3;
             },
             is.4,
@@ -141,13 +146,14 @@ module _ (program : Program) where
 pub workers_run : WorkersLaw
 workers_run program count commands w w' d d' k k' agrees words is =
     let all = new_stands program count d is.0 k is.2 in
-    let ran = runs_give program agrees commands (scene_of (new_workers count) is.0 k)
-    (scene_of is.1 d' k') (all_created program) w w' words all is.3 in (
+    let ran = runs_give program (new_supers program) agrees commands
+    (scene_of (new_workers count) is.0 k) (scene_of is.1 d' k') (all_created program) w w' words
+    all is.3 in (
       is.0,
       is.1,
       ran.0,
       is.2,
-      all_hold program (super_words program) (scene_of (new_workers count) is.0 k)
+      all_hold program (new_supers program) (scene_of (new_workers count) is.0 k)
           (all_created program) all,
       ran.1,
     )
@@ -155,13 +161,14 @@ workers_run program count commands w w' d d' k k' agrees words is =
 pub workers_part : WorkersPartLaw
 workers_part program count commands w w' d d' k k' agrees words is =
     let all = new_stands program count d is.0 k is.2 in
-    let ran = breaks_give program agrees commands (scene_of (new_workers count) is.0 k)
-    (scene_of is.1 d' k') (all_created program) w w' words all is.3 in (
+    let ran = breaks_give program (new_supers program) agrees commands
+    (scene_of (new_workers count) is.0 k) (scene_of is.1 d' k') (all_created program) w w' words
+    all is.3 in (
       is.0,
       is.1,
       ran.0,
       is.2,
-      all_hold program (super_words program) (scene_of (new_workers count) is.0 k)
+      all_hold program (new_supers program) (scene_of (new_workers count) is.0 k)
           (all_created program) all,
       ran.1,
     )

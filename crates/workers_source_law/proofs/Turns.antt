@@ -1,7 +1,7 @@
 -- Turns: the lines that they give are those of the source.
 use Rattle.std.proofs.Common.{◌≡◌, ◌≢◌, ◌⊎◌, ⊎_elim, inl, inr, ℕ, zero, suc, ◌+◌, ◌<◌, Bool, true}
-use Rattle.std.proofs.Common.{false, List, [], ◌∷◌, ◌++◌, length, Option, Some, None, refl, sym}
-use Rattle.std.proofs.Common.{ap, ◌∙◌, subst, arith, nat_lt, if◌then◌else◌, ◌≤◌, pos, append-nil}
+use Rattle.std.proofs.Common.{false, List, [], ◌∷◌, ◌++◌, length, Option, Some, None, refl, sym, ap}
+use Rattle.std.proofs.Common.{◌∙◌, subst, arith, nat_lt, if◌then◌else◌, ◌≤◌, pos, append-nil}
 use Rattle.std.proofs.lemmas.Bool.{cases_eq, ltb-true}
 use Rattle.cache_model.specs.Cache.{Words, Cache}
 use Rattle.pmem.specs.Device.{Device}
@@ -35,11 +35,9 @@ use Rattle.cnvm_session.specs.declared.program.Program.{Program}
 use Rattle.workers_session.specs.declared.line.WorkersLine.{WorkersLine}
 use Rattle.workers_session.specs.declared.line.WorkersLine.TheVariants as line
 use Rattle.workers_session.specs.WorkersState.{stranger_in}
-use Rattle.workers_session.specs.WorkersCommands.{Scene, Unchanged, stopped_lines}
-use Rattle.workers_session.specs.WorkersCommands.{turn_lines, is_interrupted, TurnFor}
-use Rattle.workers_session.specs.WorkersCommands.{TurnList, TurnsKnown, TurnsGiven, rounds_of}
-use Rattle.workers_session.specs.WorkersCommands.{round_from}
-use Rattle.workers_session.specs.WorkersCommands.{FinishesAll}
+use Rattle.workers_session.specs.WorkersCommands.{Scene, Unchanged, stopped_lines, turn_lines}
+use Rattle.workers_session.specs.WorkersCommands.{is_interrupted, TurnFor, TurnList, TurnsKnown}
+use Rattle.workers_session.specs.WorkersCommands.{TurnsGiven, rounds_of, round_from, FinishesAll}
 use Rattle.session_law.specs.Agrees.{Agrees}
 use Rattle.session_law.specs.State.{Pending, Down, Unusable, SourceState, standing_as}
 use Rattle.workers_source_law.specs.States.{States, RestStays}
@@ -108,18 +106,21 @@ refused_or turned.Off image t o d b is = inr (refusal.Off, is.0, refl)
 refused_or turned.Failed image t o d b is = inr (refusal.Failed, is.0, refl)
 refused_or turned.NoMemory image t o d b is = inr (refusal.NoMemory, is.0, refl)
 
-module _ (program : Program) (super : Words) (agrees : Agrees program) where
+module _ (program : Program) (supers : ℕ → Words) (agrees : Agrees program) where
   -- what one turn gives
   abbrev Gives : Scene → States → List WorkersLine → Scene → Type 0
-  Gives x s lines y = (t : States) × TurnLines program lines s t × AllStand program super y t
+  Gives x s lines y = (t : States) × TurnLines program lines s t × AllStand program supers y t
       × LinesHold program lines (record { scene = y; states = t })
       × (y.workers.down ≡ false → (v : Instant) → LinesHold program lines v)
 
   module _ (worker : ℕ) (x y : Scene) (s : States) (a : TurnAnswer) (up : x.workers.down ≡ false)
-      (all : AllStand program super x s) (less : worker < length x.workers.tasks)
+      (all : AllStand program supers x s) (less : worker < length x.workers.tasks)
       (turn : TurnOf program.image worker a x.workers.tasks y.workers.tasks x.device y.device)
       (count : length y.workers.tasks ≡ length x.workers.tasks)
       (down : y.workers.down ≡ is_interrupted a) where
+    abbrev super : Words
+    super = supers worker
+
     abbrev c : Cache
     c = own program worker x.device
 
@@ -133,8 +134,8 @@ module _ (program : Program) (super : Words) (agrees : Agrees program) where
 
     rest_of : (t : States) → RestStays worker s t
         → Stands program super y.workers.down (task_at y.workers.tasks worker) b (t worker)
-        → AllStand program super y t
-    rest_of t stay mine = others_stand program super worker x y s t count turn.others turn.aside
+        → AllStand program supers y t
+    rest_of t stay mine = others_stand program supers worker x y s t count turn.others turn.aside
         stay up all (λ less. mine)
 
     shown_marks : ShowsSome (due_call EndPool program.image at.call.tx at.call.args at.work.start)
@@ -156,7 +157,7 @@ module _ (program : Program) (super : Words) (agrees : Agrees program) where
     -- the turn was refused
     stops : (why : Refusal) → PlaysPart why (compartment program.image worker x.device)
         (piece_of program.image turn.task c) (compartment program.image worker y.device)
-        → is_interrupted a ≡ true → AllStand program super y s
+        → is_interrupted a ≡ true → AllStand program supers y s
     stops why part interrupted =
         let shows = (turns program.image at.call.tx at.call.args at.work.start).3 why turn.task
         (compartment program.image worker x.device) (compartment program.image worker y.device)
@@ -169,7 +170,7 @@ module _ (program : Program) (super : Words) (agrees : Agrees program) where
     goes_on : (u : Task) → task_at y.workers.tasks worker ≡ Some u
         → WentWhole a program.image turn.task (Some u) (compartment program.image worker x.device)
         (compartment program.image worker y.device)
-        → AllStand program super y s
+        → AllStand program supers y s
     goes_on u is went =
         let work : IsAtWork program super at.call u b (s worker) =
         work_goes program super at.call (s worker) a turn.task u
@@ -296,9 +297,9 @@ module _ (program : Program) (super : Words) (agrees : Agrees program) where
             → task_at x.workers.tasks j ≡ o → OwesIf o (s j)
         other_owes j fits None is = tt
         other_owes j fits (Some u) is =
-            let there = busy_at program super (task_at x.workers.tasks j) u
+            let there = busy_at program (supers j) (task_at x.workers.tasks j) u
             (own program j x.device) (s j)
-            (subst (λ (b : Bool). Stands program super b (task_at x.workers.tasks j)
+            (subst (λ (b : Bool). Stands program (supers j) b (task_at x.workers.tasks j)
             (own program j x.device) (s j)) up (all j fits)) is in
             (there.call, there.standing)
 
@@ -342,14 +343,14 @@ module _ (program : Program) (super : Words) (agrees : Agrees program) where
         → task_at x.workers.tasks j ≡ o → PhaseOr j o
     other_phase j ne fits None is = tt
     other_phase j ne fits (Some u) is =
-        let there = busy_at program super (task_at x.workers.tasks j) u
+        let there = busy_at program (supers j) (task_at x.workers.tasks j) u
         (own program j x.device) (s j)
-        (subst (λ (b : Bool). Stands program super b (task_at x.workers.tasks j)
+        (subst (λ (b : Bool). Stands program (supers j) b (task_at x.workers.tasks j)
         (own program j x.device) (s j)) up (all j fits)) is in
-        let aside = other_aside program super worker j x.device y.device ne turn.aside in
+        let aside = other_aside program worker j x.device y.device ne turn.aside in
         phase_as j u
         (subst (InPhase (pos (suc (s j).done)) u) (sym aside.now)
-        (work_fenced program super there.call (s j) u aside.fenced (own program j x.device)
+        (work_fenced program (supers j) there.call (s j) u aside.fenced (own program j x.device)
         there.work).phase)
 
     all_phases : Turned turned.Off program.image turn.task (task_at y.workers.tasks worker)
@@ -407,13 +408,13 @@ module _ (program : Program) (super : Words) (agrees : Agrees program) where
         turn.turned)
 
   -- nothing happens
-  pub unchanged_gives : (x y : Scene) (s : States) → AllStand program super x s
-      → y ≡ x → AllStand program super y s
-  unchanged_gives x y s all same = subst (λ (z : Scene). AllStand program super z s) (sym same) all
+  pub unchanged_gives : (x y : Scene) (s : States) → AllStand program supers x s
+      → y ≡ x → AllStand program supers y s
+  unchanged_gives x y s all same = subst (λ (z : Scene). AllStand program supers z s) (sym same) all
 
   -- no line, or one that refuses
   quiet_gives : (ls : List WorkersLine) (x y : Scene) (s : States) (lines : List WorkersLine)
-      → AllStand program super x s → TurnLines program ls s s
+      → AllStand program supers x s → TurnLines program ls s s
       → ((v : Instant) → LinesHold program ls v) → lines ≡ ls → y ≡ x → Gives x s lines y
   quiet_gives ls x y s lines all means holds are same = (
     s,
@@ -425,7 +426,7 @@ module _ (program : Program) (super : Words) (agrees : Agrees program) where
   )
 
   once : (worker : ℕ) (x y : Scene) (s : States) (a : TurnAnswer) (o : Option Task)
-      → task_at x.workers.tasks worker ≡ o → x.workers.down ≡ false → AllStand program super x s
+      → task_at x.workers.tasks worker ≡ o → x.workers.down ≡ false → AllStand program supers x s
       → worker < length x.workers.tasks → TurnFor o program.image worker a x y
       → Gives x s (turn_lines a worker y.workers.tasks) y
   once worker x y s a None is up all less turn =
@@ -480,7 +481,7 @@ module _ (program : Program) (super : Words) (agrees : Agrees program) where
 
   pub list_gives : (workers : List ℕ) (x y : Scene) (s : States) (lines : List WorkersLine)
       → AreKnown (length x.workers.tasks) workers → x.workers.down ≡ false
-      → AllStand program super x s → TurnList program.image workers x lines y
+      → AllStand program supers x s → TurnList program.image workers x lines y
       → Gives x s lines y
   list_gives [] x y s lines known up all is =
       quiet_gives [] x y s lines all refl (λ v. tt) is.0 is.1
@@ -516,7 +517,7 @@ module _ (program : Program) (super : Words) (agrees : Agrees program) where
       (nat_lt worker count) refl is
 
   pub turns_give : (down : Bool) (workers : List ℕ) (x y : Scene) (s : States)
-      (lines : List WorkersLine) → x.workers.down ≡ down → AllStand program super x s
+      (lines : List WorkersLine) → x.workers.down ≡ down → AllStand program supers x s
       → TurnsGiven down program.image workers x lines y → Gives x s lines y
   turns_give true workers x y s lines is all given =
       quiet_gives (line.Plain answer.RefusedDown ∷ []) x y s lines all (s, refl, refl)
@@ -551,7 +552,7 @@ module _ (program : Program) (super : Words) (agrees : Agrees program) where
       (round_known count 0 count (omega arith)) (rounds_known n count)
 
   pub finish_gives : (down : Bool) (x y : Scene) (s : States) (lines : List WorkersLine)
-      → x.workers.down ≡ down → AllStand program super x s
+      → x.workers.down ≡ down → AllStand program supers x s
       → FinishesAll down program.image x lines y → Gives x s lines y
   finish_gives true x y s lines is all given =
       quiet_gives (line.Plain answer.RefusedDown ∷ []) x y s lines all (s, refl, refl)

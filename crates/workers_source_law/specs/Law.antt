@@ -1,7 +1,7 @@
 -- Several workers do what the source says, each as if it were alone: one chain of states for each
 -- compartment, whatever the order of the turns, and wherever the power is cut.
 use Rattle.std.specs.Prelude.{ℕ, ◌<◌, ◌≡◌, ◌⊎◌, false, List, [], ◌∷◌, length, Option, None, Some}
-use Rattle.std.specs.Prelude.{Ok, pos, is_some, true}
+use Rattle.std.specs.Prelude.{Ok, ℤ, pos, is_some, true}
 use Rattle.std.specs.List.{AllByRecursion}
 use Rattle.std.specs.Io.KnownBytes.{Appends}
 use Rattle.nvm_base.specs.Parts.{AppendsPart}
@@ -22,16 +22,18 @@ use Rattle.workers_script.specs.declared.command.WorkersCommand.TheVariants as c
 use Rattle.workers_script.specs.WorkersGrammar.{workers_script_meaning}
 use Rattle.workers_session.specs.declared.line.WorkersLine.{WorkersLine}
 use Rattle.workers_session.specs.declared.line.WorkersLine.TheVariants as line
-use Rattle.workers_session.specs.WorkersState.{WorkersState}
+use Rattle.workers_session.specs.WorkersState.{WorkersState, new_workers}
 use Rattle.workers_session.specs.WorkersCommands.{Scene, scene_of, WorkersCommanded}
-use Rattle.workers_run.specs.WorkersRan.{lines_text, AreCreated, new_workers, RunsNew, BreaksOffNew}
+use Rattle.workers_run.specs.WorkersRan.{lines_text, AreCreated, RunsNew, BreaksOffNew}
+use Rattle.workers_run.specs.WorkersRan.{OpensWorkers, RunsOpened, BreaksOffOpened}
 use Rattle.session_law.specs.Source.{source_pool}
 use Rattle.session_law.specs.Words.{AreWords}
 use Rattle.session_law.specs.Agrees.{Agrees}
 use Rattle.session_law.specs.Law.{HasPhase}
 use Rattle.session_law.specs.State.{Standing, Ready, Down, Unusable, SourceState}
 use Rattle.workers_source_law.specs.States.{States, all_created}
-use Rattle.workers_source_law.specs.Lines.{LinesMean}
+use Rattle.workers_source_law.specs.Lines.{RecoveryLines, LinesMean}
+use Rattle.workers_source_law.specs.Opened.{AreOpened, image_at, all_opened}
 
 -- the arguments of a command are words
 abbrev pub HasWordArgs : WorkersCommand → Type 0
@@ -169,3 +171,53 @@ WorkersPartLaw =
     Agrees program → AllByRecursion HasWordArgs commands →
     BreaksOffNew program count commands w w' d d' k k'
     → BrokeOffNew program count commands w w' d d' k k'
+
+-- The compartments of these images are opened: what the machine and the device did, what the source
+-- says of the lines of the recoveries, from what it knows of the images, and what the compartments
+-- then hold.
+pub record OpenedStep (program : Program) (count : ℕ) (words : List ℤ) (d : Device) (k : ℕ)
+    (lines : List WorkersLine) (y : Instant) : Type 0 where
+  pub did : OpensWorkers program count words d k lines y.scene
+  pub meant : RecoveryLines program (image_at program words) 0 lines (all_opened program words)
+      y.states
+  pub holds : AllHold program y
+
+-- The compartments are opened, the lines of their recoveries are written, and the run on them is
+-- such a chain.
+abbrev pub RanOpened : Program → (count : ℕ) → List WorkersCommand → List ℤ
+    → (w w' : Option (List ℕ)) → (d d' : Device) → (k k' : ℕ) → Type 0
+RanOpened program count commands words w w' d d' k k' =
+    (lines : List WorkersLine) × (x : Instant) × (w1 : Option (List ℕ)) × (s : WorkersState)
+    × (t : States) × OpenedStep program count words d k lines x
+    × Appends w w1 (lines_text lines)
+    × RanWorkers program commands x w1 (last_instant s d' k' t) w'
+
+-- the same where the lines of the recoveries are written in part, or the run breaks off
+abbrev pub BrokeOffOpened : Program → (count : ℕ) → List WorkersCommand → List ℤ
+    → (w w' : Option (List ℕ)) → (d d' : Device) → (k k' : ℕ) → Type 0
+BrokeOffOpened program count commands words w w' d d' k k' =
+    ((lines : List WorkersLine) × (s : WorkersState) × (t : States)
+    × OpenedStep program count words d k lines (last_instant s d' k' t)
+    × AppendsPart w w' (lines_text lines))
+    ⊎ ((lines : List WorkersLine) × (x : Instant) × (w1 : Option (List ℕ)) × (s : WorkersState)
+    × (t : States) × OpenedStep program count words d k lines x
+    × Appends w w1 (lines_text lines)
+    × BrokeOff program commands x w1 (last_instant s d' k' t) w')
+
+-- The same of a run on compartments that are opened from images.
+abbrev pub OpenedWorkersLaw : Type 0
+OpenedWorkersLaw =
+    (program : Program) (count : ℕ) (commands : List WorkersCommand) (words : List ℤ)
+    (w w' : Option (List ℕ)) (d d' : Device) (k k' : ℕ) →
+    Agrees program → AllByRecursion HasWordArgs commands → AreOpened program count words →
+    RunsOpened program count commands words w w' d d' k k'
+    → RanOpened program count commands words w w' d d' k k'
+
+-- and of one that breaks off
+abbrev pub OpenedWorkersPartLaw : Type 0
+OpenedWorkersPartLaw =
+    (program : Program) (count : ℕ) (commands : List WorkersCommand) (words : List ℤ)
+    (w w' : Option (List ℕ)) (d d' : Device) (k k' : ℕ) →
+    Agrees program → AllByRecursion HasWordArgs commands → AreOpened program count words →
+    BreaksOffOpened program count commands words w w' d d' k k'
+    → BrokeOffOpened program count commands words w w' d d' k k'

@@ -1,5 +1,6 @@
 pub mod States
 pub mod Lines
+pub mod Opened
 pub mod Law
 pub mod FaultsTold
 pub mod Alone

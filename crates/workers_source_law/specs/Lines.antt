@@ -70,21 +70,22 @@ TurnLines program (l ∷ lines) s t =
 abbrev pub worker_image : Program → (worker : ℕ) → Device → Words
 worker_image program worker cut = view (compartment program.image worker cut).cache
 
--- The recoveries after a power cut, from this worker on, each with a line: each is answered as that
--- of a session would be, from the worker's own state and the image of its own compartment.
-abbrev pub RecoveryLines : Program → (cut : Device) → (worker : ℕ) → List WorkersLine
+-- The recoveries of compartments with these images, from this worker on, each with a line: each is
+-- answered as that of a session would be, from the worker's own state and the image of its own
+-- compartment.
+abbrev pub RecoveryLines : Program → (images : ℕ → Words) → (worker : ℕ) → List WorkersLine
     → (s t : States) → Type 0
-RecoveryLines program cut worker [] s t = t ≡ s
-RecoveryLines program cut worker (l ∷ lines) s t =
+RecoveryLines program images worker [] s t = t ≡ s
+RecoveryLines program images worker (l ∷ lines) s t =
     (a : Answer) × (r : States) × (l ≡ line.Own worker a)
-    × Powers program (s worker) (worker_image program worker cut) a (r worker)
-    × RestStays worker s r × RecoveryLines program cut (suc worker) lines r t
+    × Powers program (s worker) (images worker) a (r worker)
+    × RestStays worker s r × RecoveryLines program images (suc worker) lines r t
 
 -- a pick that doesn't fit changes nothing
 abbrev pub PowerLines : Program → (cut : Device) → List WorkersLine → (s t : States) → Type 0
 PowerLines program cut lines s t =
     ((at : ℕ) × (lines ≡ line.Plain (answer.RefusedPick at) ∷ []) × (t ≡ s))
-    ⊎ RecoveryLines program cut 0 lines s t
+    ⊎ RecoveryLines program (λ worker. worker_image program worker cut) 0 lines s t
 
 -- what `show` and `last` tell of a worker's state; any other line tells nothing of it
 abbrev pub TellsState : Program → SourceState → List WorkersLine → Type 0

@@ -1,5 +1,6 @@
 -- The history of each worker: the transactions that it finished, by its own lines alone. None is
--- lost and none is done twice, and its compartment's heap holds the pool to which its history leads.
+-- lost and none is done twice, and its compartment's heap holds the pool to which its history
+-- leads.
 use Rattle.std.specs.Prelude.{ℕ, suc, ◌<◌, ◌≡◌, ◌≢◌, ◌⊎◌, false, List, [], ◌∷◌, ◌++◌, length}
 use Rattle.std.specs.Prelude.{Option, Some, pos}
 use Rattle.cache_model.specs.Cache.{Words}

@@ -1,11 +1,13 @@
 //! Several workers on one device do what the source says. It rests on `session_law`, which says so
 //! of one session, and on `workers_law`, by which a transaction that was played turn by turn is a
 //! call on its worker's own compartment. Its one contract for the crates above: where the image
-//! agrees with its source, a run of a script of workers is a chain of steps with one state of the
-//! source for each compartment, which only its own worker's lines change.
+//! agrees with its source, a run of a script of workers, on new compartments or on images that are
+//! opened, is a chain of steps with one state of the source for each compartment, which only its
+//! own worker's lines change.
 #![tactic(auto)]
 
-ghost use Rattle.workers_source_law.specs.Law.{WorkersLaw, WorkersPartLaw, ArgsLaw};
+ghost use Rattle.workers_source_law.specs.Law.{WorkersLaw, WorkersPartLaw, OpenedWorkersLaw};
+ghost use Rattle.workers_source_law.specs.Law.{OpenedWorkersPartLaw, ArgsLaw};
 ghost use Rattle.workers_source_law.specs.FaultsTold.{ToldFaultLaw, RunFaultLaw};
 ghost use Rattle.workers_source_law.specs.Alone.{AloneLaw, AlonePartLaw, AsCallLaw};
 ghost use Rattle.workers_source_law.specs.OwnHistory.{OwnSealedLaw, OwnHistoryLaw, OwnPoolLaw};
@@ -15,6 +17,8 @@ ghost use Rattle.workers_source_law.specs.OwnHistory.{AloneNewLaw};
 pub fn source_law()
     ensures run { WorkersLaw }
     ensures part { WorkersPartLaw }
+    ensures opened { OpenedWorkersLaw }
+    ensures opened_part { OpenedWorkersPartLaw }
     ensures words { ArgsLaw }
 {}
 

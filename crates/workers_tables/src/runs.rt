@@ -7,7 +7,7 @@ ghost use Rattle.pool_workers.specs.Task.{IsGoing};
 
 use cache_model::{Choice, Picks, Rest};
 use nvm_base::Steps;
-use pm_machine::Image;
+use pm_machine::{Image, Policy};
 use pmem::{Phase, Pmem, PmemWork};
 use pool_layout::{DONE, heap_start};
 use pool_workers::{TurnAnswer, Workers, first_line};
@@ -164,7 +164,13 @@ fn recover_all<P: Pmem + Drop, L: Ledger>(
 {
     let mut seen = [RecoverAnswer::Clean; 8];
     for worker in 0..workers.count() {
-        seen[(worker % 8) as usize] = workers.recover_one(image, worker, dev, steps);
+        seen[(worker % 8) as usize] = workers.recover_one(
+            image,
+            worker,
+            Policy::EndPool,
+            dev,
+            steps,
+        );
     }
     seen
 }

@@ -104,6 +104,8 @@ PlanEnds (plan.Workers p s workers slots records ticks) told result before after
     WorkersEnds (asked_by slots records ticks) workers told.program told.script result
     before.out after.out before.dev after.dev before.steps after.steps
     × Keeps before.image after.image
+PlanEnds (plan.WorkersPool p s workers slots records ticks pool) told result before after =
+    Keeps before.image after.image × (after.dev ≡ before.dev)
 PlanEnds (plan.Emit p prefix header slots records ticks) told result before after =
     EmitEnds (asked_by slots records ticks) prefix header told.program result before.out after.out
     × IsUntouched before after

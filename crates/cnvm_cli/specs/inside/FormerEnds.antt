@@ -1,6 +1,6 @@
 -- How a pool of the former program is read and moved, as the bodies promise it.
 use Rattle.std.specs.Prelude.{ℕ, ℤ, pos, ◌≡◌, ◌≢◌, ◌≤◌, ◌⊎◌, ◌++◌, List, take, length, Option, Some}
-use Rattle.std.specs.Prelude.{None, Result, Ok, Err, option_map, Bool, true, false, ◌+◌, ◌*◌, ◌-◌}
+use Rattle.std.specs.Prelude.{None, Result, Ok, Err, option_map, true, false, ◌+◌, ◌*◌, ◌-◌}
 use Rattle.std.specs.Prelude.{slice_index_or}
 use Rattle.pmem.specs.Device.{Device}
 use Rattle.pmem.specs.Played.{PlaysAll}
@@ -31,8 +31,8 @@ use Rattle.cnvm_cli.specs.declared.former.Unheld.{Unheld}
 use Rattle.cnvm_cli.specs.declared.former.Unheld.TheVariants as unheld
 use Rattle.cnvm_cli.specs.declared.refused.Refused.{Refused}
 use Rattle.cnvm_cli.specs.declared.refused.Refused.TheVariants as refused
-use Rattle.cnvm_cli.specs.Former.{IsOwn, IsOther, is_between, is_cut, owes_cut, unmoved, IsMended}
-use Rattle.cnvm_cli.specs.Former.{shape_line, IsLeft}
+use Rattle.cnvm_cli.specs.Former.{IsOwn, IsOther, is_between, is_move_cut, owes_cut, unmoved}
+use Rattle.cnvm_cli.specs.Former.{MendsLine, shape_line, DoesNoMore}
 use Rattle.cnvm_cli.specs.Opened.{ImageRefuses, ImageGives}
 use Rattle.cnvm_cli.specs.PoolSide.{PoolSide, IsSilent, RunsWords}
 use Rattle.cnvm_cli.specs.Verdict.{OfBytes, ProgramRefuses}
@@ -43,8 +43,8 @@ abbrev pub IsUnsaid : Refused → Type 0
 IsUnsaid why = (why ≡ refused.ReadFault) ⊎ (why ≡ refused.NoMemory)
 
 -- the program is one of some text
-abbrev pub IsOfText : Asked → Compiled → Type 0
-IsOfText asked compiled = (text : List ℕ) × IsCompiled asked text compiled
+abbrev pub ComesFromText : Asked → Compiled → Type 0
+ComesFromText asked compiled = (text : List ℕ) × IsCompiled asked text compiled
 
 -- the rest of an image whose first bytes are these
 abbrev pub RestReadAs : Program → (head : List ℕ) → (left : Option (List ℕ))
@@ -73,7 +73,7 @@ pub record IsPoolRead (new : Program) (old : Compiled) (found words : List ℤ) 
     : Type 0 where
   pub compiled : pool.compiled ≡ old
   pub words_are : pool.words ≡ words
-  pub cut : is_cut old.program found ≡ pool.cut
+  pub cut : is_move_cut old.program found ≡ pool.cut
   pub unowed : owes_cut old.program found words ≡ false
   pub other : pool.other ≡ first_other old.program.typed new.typed
 
@@ -122,7 +122,7 @@ pub record IsFormerImage (program : Program) (pool : FormerPool) (bytes : List �
   pub other : IsOther program bytes
   pub between :
       is_between (digest_in bytes) pool.compiled.program.digest program.digest ≡ true
-  pub cut : is_cut pool.compiled.program (digest_in bytes) ≡ pool.cut
+  pub cut : is_move_cut pool.compiled.program (digest_in bytes) ≡ pool.cut
   pub unowed : owes_cut pool.compiled.program (digest_in bytes) pool.words ≡ false
 
 -- a former pool that is read: its program's text, its words, and the struct that differs
@@ -183,13 +183,13 @@ abbrev pub TakesPool : (run : List ℤ → Type 0) → FormerPool → (shown : O
     → (before after : PoolSide) → Type 0
 TakesPool run pool shown result before after =
     IsSilent result before after
-    ⊎ ((shown' : Option FileLines) × IsMended pool.cut pool.words shown shown'
+    ⊎ ((shown' : Option FileLines) × MendsLine pool.cut pool.words shown shown'
     × RunsWords run pool.compiled.program pool.words shown' result before after)
 
 -- the file, whose line of the digest is mended, holds the pool's words
 abbrev pub IsPoolHeld : FormerPool → (shown : Option FileLines) → Type 0
 IsPoolHeld pool shown =
-    (shown' : Option FileLines) × IsMended pool.cut pool.words shown shown'
+    (shown' : Option FileLines) × MendsLine pool.cut pool.words shown shown'
     × HoldsNewest shown' (pool_lines (sizes_of pool.compiled.program)) pool.words
 
 -- it failed, or there was no memory; or it holds other words
@@ -198,8 +198,9 @@ IsUnheld pool shown (unheld.Status result) =
     (result ≡ status.NoMemory)
     ⊎ ((result ≡ status.DeviceFault) ⊎ (result ≡ status.ReadFault))
 IsUnheld pool shown (unheld.Refused why) =
-    (shown' : Option FileLines) × IsMended pool.cut pool.words shown shown'
-    × (other : List ℤ) × (other ≢ pool.words)
+    (shown' : Option FileLines) × MendsLine pool.cut pool.words shown shown'
+    × (other : List ℤ) × (length other ≡ 8 * pool_lines (sizes_of pool.compiled.program))
+    × (other ≢ pool.words)
     × HoldsNewest shown' (pool_lines (sizes_of pool.compiled.program)) other
     × (why ≡ refused.Image (Version (slice_index_or other 1 (pos 0)) (pos 2)))
 
@@ -208,10 +209,10 @@ abbrev pub MovesAs : (go : Device → Type 0) → (former new : Program) → Mod
     → Status → (told : Option (List ℕ)) → (after : PoolSide) → Type 0
 MovesAs go former new m d k result told after =
     ((is_recovered m ≡ false) × (result ≡ status.NoMemory) × (after.out ≡ told)
-    × IsLeft d k after)
+    × DoesNoMore d k after)
     ⊎ ((is_recovered m ≡ true)
     × (((name : List ℕ) × (first_other former.typed new.typed ≡ Some name)
-    × TellsAs status.Image (shape_line name) result told after.out × IsLeft d k after)
+    × TellsAs status.Image (shape_line name) result told after.out × DoesNoMore d k after)
     ⊎ ((first_other former.typed new.typed ≡ None)
     × ((IsUnmoved new result after.held.state d after.held.device × (after.out ≡ told)
     × (after.steps ≡ k))

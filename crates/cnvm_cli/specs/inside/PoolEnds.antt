@@ -19,6 +19,7 @@ use Rattle.cnvm_words.specs.declared.plan.Plan.TheVariants as plan
 use Rattle.cnvm_cli.specs.declared.refused.Refused.{Refused}
 use Rattle.cnvm_cli.specs.PoolSide.{PoolSide, IsUnrun, RunsFile, TakesFile, MakesPool}
 use Rattle.cnvm_cli.specs.Run.{RefusedAs}
+use Rattle.cnvm_cli.specs.inside.CrewEnds.{CrewEnds}
 use Rattle.cnvm_cli.specs.inside.ServeEnds.{ServeEnds}
 use Rattle.cnvm_cli.specs.Verdict.{asked_by, TextsGive, TextsRefuse}
 use Rattle.cnvm_cli.specs.World.{Sources}
@@ -92,5 +93,7 @@ PlanOnFileEnds (plan.RunPool p s slots records ticks pool former) told result be
     FileEnds (asked_by slots records ticks) (is_some former) told result before after
 PlanOnFileEnds (plan.ServePool p slots records ticks pool former) told result before after =
     ServeEnds (asked_by slots records ticks) (is_some former) told result before after
+PlanOnFileEnds (plan.WorkersPool p s workers slots records ticks pool) told result before after =
+    CrewEnds (asked_by slots records ticks) workers told result before after
 PlanOnFileEnds _ told result before after =
     (after.held ≡ before.held) × (after.found ≡ before.found)

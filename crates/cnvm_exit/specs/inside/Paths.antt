@@ -73,6 +73,14 @@ paths_in (Some (plan.Workers program script workers slots records ticks)) = reco
   image_out = [];
   former = [];
 }
+paths_in (Some (plan.WorkersPool program script workers slots records ticks pool)) = record {
+  program = program;
+  origin = File;
+  script = script;
+  image_in = pool;
+  image_out = [];
+  former = [];
+}
 paths_in (Some (plan.Emit program prefix header slots records ticks)) = program_alone program
 paths_in (Some (plan.Code program)) = program_alone program
 

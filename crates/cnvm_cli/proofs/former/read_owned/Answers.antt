@@ -1,4 +1,4 @@
-use Rattle.std.proofs.Common.{rules, ◌≡◌, ◌≤◌, ℕ, List, length, arith, sym, ap, ◌∙◌}
+use Rattle.std.proofs.Common.{◌≡◌, ◌≤◌, ℕ, List, length, arith, sym, ap, ◌∙◌}
 use Rattle.pool_layout.specs.Fault.{digest_in}
 use Rattle.cnvm_cli.proofs.Owning.{own_start, other_start, unread_start}
 use Rattle.cnvm_cli.proofs.former.read_owned.Goals as goal

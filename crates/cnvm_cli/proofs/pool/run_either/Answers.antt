@@ -1,4 +1,4 @@
-use Rattle.std.proofs.Common.{List, ℤ, refl, sym}
+use Rattle.std.proofs.Common.{refl}
 use Rattle.cnvm_compile.specs.declared.compiling.Compiled.{Compiled}
 use Rattle.cnvm_cli.specs.PoolSide.{PoolSide, held_by, pool_side}
 use Rattle.cnvm_cli.specs.inside.PoolEnds.{RunsOn, RunsMoved}

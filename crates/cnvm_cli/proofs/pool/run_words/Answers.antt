@@ -1,5 +1,6 @@
 use Rattle.std.proofs.Common.{◌≡◌, List, ℤ, inr, refl, sym, ap, ◌∙◌, subst}
 use Rattle.pool_layout.specs.Sizes.{pool_lines}
+use Rattle.cnvm_session.specs.Pool.{sizes_of}
 use Rattle.cnvm_cli.specs.PoolSide.{PoolSide, held_by, pool_side}
 use Rattle.cnvm_cli.specs.inside.PoolEnds.{RunsOn}
 use Rattle.cnvm_cli.proofs.Taking.{runs_held, runs_other}
@@ -14,7 +15,8 @@ returns-then-are_same-clause-ends g c = λ found.
     let after : PoolSide = pool_side found (g.K.Sink.written c.run_held.new.out)
     (held_by g.N.Lines.memory content c.run_held.new.dev) c.run_held.new.steps in
     let run = RunsOn c.args.program.now c.args.script.now c.run_held.result before after in
-    inr (runs_held run c.args.program.now (content c.args.file) c.run_held.result before after
+    let n = pool_lines (sizes_of c.args.program.now) in
+    inr (runs_held run n 1 (content c.args.file) c.run_held.result before after
     c.pool_lines.result held c.args.words.now
     (c.pool_lines.ensures ∙ ap pool_lines c.sizes.ensures) c.in-Ok.ensures.newest
     (sym c.as_slice-held.ensures ∙ c.are_same.ensures.same c.if-are_same.true)
@@ -29,9 +31,11 @@ returns-clause-ends g c = λ found.
     let after : PoolSide = pool_side found (g.K.Sink.written c.refuse.new.out)
     (held_by g.N.Lines.memory content c.args.dev.now) c.args.steps.now in
     let run = RunsOn c.args.program.now c.args.script.now c.refuse.result before after in
-    inr (runs_other run c.args.program.now (content c.args.file) c.refuse.result before after
+    let n = pool_lines (sizes_of c.args.program.now) in
+    inr (runs_other run n 1 (content c.args.file) c.refuse.result before after
     c.pool_lines.result held c.args.words.now
     (c.pool_lines.ensures ∙ ap pool_lines c.sizes.ensures) c.in-Ok.ensures.newest
+    c.in-Ok.ensures.length
     (λ (e : held ≡ c.args.words.now). c.are_same.ensures.other c.if-are_same.false
     (c.as_slice-held.ensures ∙ e)) c.other_words.result c.as_slice-held.result.now
     c.other_words.ensures c.as_slice-held.ensures (c.refuse.ensures.refused, refl, refl))

@@ -34,6 +34,11 @@ returns-in-Workers-clause-ends g c =
     rw (c.in-Workers.is, ← c.asked_by-asked-in-Workers.ensures)
     (c.run_script.ensures.ends, c.run_script.ensures.image)
 
+pub returns-in-WorkersPool-clause-pool : goal.returns-in-WorkersPool-clause-pool
+returns-in-WorkersPool-clause-pool g c =
+    rw (c.in-WorkersPool.is, ← c.asked_by-asked-in-WorkersPool.ensures)
+    c.run_crew_file.ensures.ends
+
 pub returns-in-Emit-clause-ends : goal.returns-in-Emit-clause-ends
 returns-in-Emit-clause-ends g c =
     rw (c.in-Emit.is, ← c.asked_by-asked-in-Emit.ensures, ← c.as_str.ensures)

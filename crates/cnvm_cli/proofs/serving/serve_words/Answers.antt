@@ -1,8 +1,7 @@
-use Rattle.std.proofs.Common.{◌≡◌, List, ℤ, inr, refl, sym, ap, ◌∙◌, subst}
+use Rattle.std.proofs.Common.{◌≡◌, List, ℤ, inr, refl, sym, ap, ◌∙◌}
 use Rattle.pool_layout.specs.Sizes.{pool_lines}
-use Rattle.session_serve.specs.Begins.{OpenedServed}
+use Rattle.cnvm_session.specs.Pool.{sizes_of}
 use Rattle.cnvm_cli.specs.PoolSide.{PoolSide, held_by, pool_side}
-use Rattle.cnvm_cli.specs.Serve.{Concludes}
 use Rattle.cnvm_cli.specs.inside.ServeEnds.{ServesOn}
 use Rattle.cnvm_cli.proofs.Standing.{stands_at, opened_by}
 use Rattle.cnvm_cli.proofs.Taking.{runs_held, runs_other}
@@ -20,7 +19,8 @@ returns-then-are_same-clause-ends g c = λ found.
     let left' = g.T.Source.left c.serve_held-served.new.source in
     let run = ServesOn left left' c.args.program.now c.status_of.result before after in
     let end = c.serve_held-served.ensures in
-    inr (runs_held run c.args.program.now (content c.args.file) c.status_of.result before after
+    let n = pool_lines (sizes_of c.args.program.now) in
+    inr (runs_held run n 1 (content c.args.file) c.status_of.result before after
     c.pool_lines.result held c.args.words.now
     (c.pool_lines.ensures ∙ ap pool_lines c.sizes.ensures) c.in-Ok.ensures.newest
     (sym c.as_slice-held.ensures ∙ c.are_same.ensures.same c.if-are_same.true) (
@@ -42,9 +42,11 @@ returns-clause-ends g c = λ found.
     (held_by g.N.Lines.memory content c.args.dev.now) c.args.steps.now in
     let left = g.T.Source.left c.args.lines.now in
     let run = ServesOn left left c.args.program.now c.refuse.result before after in
-    inr (runs_other run c.args.program.now (content c.args.file) c.refuse.result before after
+    let n = pool_lines (sizes_of c.args.program.now) in
+    inr (runs_other run n 1 (content c.args.file) c.refuse.result before after
     c.pool_lines.result held c.args.words.now
     (c.pool_lines.ensures ∙ ap pool_lines c.sizes.ensures) c.in-Ok.ensures.newest
+    c.in-Ok.ensures.length
     (λ (e : held ≡ c.args.words.now). c.are_same.ensures.other c.if-are_same.false
     (c.as_slice-held.ensures ∙ e)) c.other_words.result c.as_slice-held.result.now
     c.other_words.ensures c.as_slice-held.ensures (c.refuse.ensures.refused, refl, refl))

@@ -25,7 +25,7 @@ returns-then-ends-clause-does g c =
       lines ++ own,
       extends_more c.args.told c.loop-worker.told c.recover-more.result.0 lines own
           c.loop-worker.invariant.told r.2,
-      back_over c.args.image.now i all all x z m lines r.0 less c.loop-worker.invariant.leads r.1
+      back_over c.args.program.now i all all x z m lines r.0 less c.loop-worker.invariant.leads r.1
           (sym r.3 ∙ c.if-ends.true),
     )
 
@@ -54,7 +54,7 @@ loop-worker-preserved g c =
       lines = lines ++ own;
       told = extends_more c.args.told c.loop-worker.told c.recover-more.result.0 lines own
           c.loop-worker.invariant.told r.2;
-      leads = back_next c.args.image.now i all all x z m lines r.0 less
+      leads = back_next c.args.program.now i all all x z m lines r.0 less
           c.loop-worker.invariant.leads r.1 (sym r.3 ∙ c.if-ends.false);
     }
 
@@ -72,5 +72,5 @@ returns-clause-does g c =
       lines ++ [],
       extends_more c.args.told c.loop-worker.told c.loop-worker.told lines []
           c.loop-worker.invariant.told (extends_nothing c.loop-worker.told),
-      back_end c.args.image.now i (all - i) all x z lines none c.loop-worker.invariant.leads,
+      back_end c.args.program.now i (all - i) all x z lines none c.loop-worker.invariant.leads,
     )

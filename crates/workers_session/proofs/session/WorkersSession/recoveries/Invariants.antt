@@ -11,14 +11,14 @@ abbrev pub invariant-loop-worker : goal.invariant-loop-worker
 invariant-loop-worker g l =
     let dev = g.P.PmemWork.device in
     let all = length l.initial.self.tasks in record {
-      tasks : AreTasks l.image l.self.tasks;
-      devices : HasCompartments l.image l.self.tasks (dev l.dev);
+      tasks : AreTasks l.program.image l.self.tasks;
+      devices : HasCompartments l.program.image l.self.tasks (dev l.dev);
       count : length l.self.tasks ≡ all;
       on : (dev l.dev).on ≡ true;
       idle : (j : ℕ) → j < l.worker → task_at l.self.tasks j ≡ None;
       lines : List WorkersLine;
       told : Extends l.initial.told l.told lines;
-      leads : LeadsBack l.image l.worker (all - l.worker) all
+      leads : LeadsBack l.program l.worker (all - l.worker) all
           (scene_of l.initial.self (dev l.initial.dev) l.initial.steps)
           (scene_of l.self (dev l.dev) l.steps) lines;
     }

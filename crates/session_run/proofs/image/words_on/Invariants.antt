@@ -1,7 +1,7 @@
 use Rattle.std.proofs.Common.{◌≡◌, ◌-◌, ◌*◌, ◌++◌}
 use Rattle.cache_model.specs.Cache.{view}
 use Rattle.pm_machine.specs.HeapPool.{words_from}
-use Rattle.session_run.proofs.image.words_of.Given as goal
+use Rattle.session_run.proofs.image.words_on.Given as goal
 
 -- the words so far, followed by those that are left, are all of them
 abbrev pub invariant-loop-k : goal.invariant-loop-k

@@ -2,7 +2,7 @@ use Rattle.std.proofs.Common.{◌≡◌, ◌+◌, ◌-◌, ◌*◌, ◌++◌, []
 use Rattle.std.proofs.lemmas.Int.{to_z-of_z}
 use Rattle.cache_model.specs.Cache.{view}
 use Rattle.cnvm_session.proofs.Holding.{words_more}
-use Rattle.session_run.proofs.image.words_of.Goals as goal
+use Rattle.session_run.proofs.image.words_on.Goals as goal
 
 pub loop-k-preserved : goal.loop-k-preserved
 loop-k-preserved g c =

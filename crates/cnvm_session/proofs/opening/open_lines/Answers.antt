@@ -3,7 +3,7 @@ use Rattle.pmem.specs.Device.{Device, FaultsRose}
 use Rattle.pmem.proofs.Parts.{IsOn, never_off, rose_part}
 use Rattle.cnvm_session.specs.declared.creating.StartFault.TheVariants.{Failed}
 use Rattle.cnvm_session.specs.Unmade.{cause_of}
-use Rattle.cnvm_session.proofs.opening.open_pool.Goals as goal
+use Rattle.cnvm_session.proofs.opening.open_lines.Goals as goal
 
 pub of-requires : goal.of-requires
 of-requires g c = record {
