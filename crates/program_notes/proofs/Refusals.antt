@@ -1,7 +1,7 @@
 -- What each stage of the front end refuses is refused at the byte that its answer tells.
 use Rattle.std.proofs.Common.{◌≡◌, ◌⊎◌, ℕ, ◌+◌, ◌≤◌, List, [], ◌++◌, Some}
 use Rattle.std.proofs.Common.{None, Ok, Err, length, map, min, refl, ⊎_elim, ap}
-use Rattle.std.proofs.Common.{◌≢◌, ◌<◌, ◌∙◌, inl, inr, sym, subst, arith}
+use Rattle.std.proofs.Common.{◌≢◌, ◌<◌, ◌∙◌, inl, inr, sym, subst, arith, append_assoc}
 use Rattle.std.proofs.Math.Nat.{min-eq_left, min-eq_right, min-le_right}
 use Rattle.std.proofs.lemmas.Bool.{cases_order}
 use Rattle.std.proofs.lemmas.Option.{slice_get_past}
@@ -98,6 +98,17 @@ placed path text message what start refused begins = AtPlace message (record {
   rest = begins.0;
   begins = begins.1;
 })
+
+-- the same with the messages of other errors after it
+pub placed_first : (path text message others all what : List ℕ) (start : ℕ) → RefusedAt text start
+    → ((rest : List ℕ) × (message ≡ head_text path (place_of text start) what ++ rest))
+    → all ≡ message ++ others → Tells path text (Some all)
+placed_first path text message others all what start refused begins more =
+    placed path text all what start refused (
+      begins.0 ++ others,
+      more ∙ ap (λ (m : List ℕ). m ++ others) begins.1
+          ∙ append_assoc (head_text path (place_of text start) what) begins.0 others,
+    )
 
 -- from the end on, a place is that of the end
 pub start_min : (list : Tokens) (t : ℕ)

@@ -124,7 +124,7 @@ pub(crate) fn locals<'a>(alloc: Global, near: &Spelled<'a>) -> Result<Vec<&'a [u
 }
 
 /// The place of the last token of the item in which the token stands.
-fn item_end(near: &Spelled<'_>) -> u64 {
+pub(crate) fn item_end(near: &Spelled<'_>) -> u64 {
     let mut depth = 0u64;
     let count = near.words.len() as u64;
     for place in near.item_start()..count {

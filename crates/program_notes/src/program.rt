@@ -11,6 +11,8 @@ ghost use Rattle.program_notes.specs.RefusedAt.{ReadsAs, RefusedAt, RefusesConst
 ghost use Rattle.program_notes.specs.RefusedAt.{constant_start, rule_place};
 ghost use Rattle.c_types.specs.Fault.{breaks, refusal};
 
+use crate::declared::declared;
+use crate::others::other_notes;
 use crate::syntax::{syntax, what};
 use crate::typing::typing;
 use c_constants::{ConstFault, constants};
@@ -277,6 +279,12 @@ pub(crate) fn start_of(list: &TokenList, place: u64) -> u64
     list.start(place.min(list.len()))
 }
 
+/// The line of the token at a place; from the list's length on, that of the text's end.
+#[tactic(auto, using(crate::proofs::Refusals::min_within))]
+pub(crate) fn line_of(list: &TokenList, place: u64) -> u64 {
+    list.line(place.min(list.len()))
+}
+
 /// The tokens of a text as they are spelled.
 pub(crate) fn spelled<'a>(
     alloc: Global,
@@ -363,23 +371,45 @@ fn of_rule(
         return Err(AllocError);
     };
     let told = rule_told(alloc, list, Spelled { words, place }, fault)?;
-    at_token(alloc, path, text, list, place, &told)
+    at_rule(alloc, path, text, start_of(list, place), &told)
 }
 
-fn rule_told(
+/// The message of a text that breaks a rule at this byte, and those of the errors after it.
+#[tactic(auto, using(crate::proofs::Refusals::placed_first))]
+fn at_rule(
+    alloc: Global,
+    path: &str,
+    text: &[u8],
+    start: u64,
+    told: &Told,
+) -> Result<Option<String>, AllocError>
+    requires { RefusedAt text.now start }
+    ensures tells { IfOk result (λ note. Tells path.now text.now (option_map string_bytes note)) }
+{
+    let mut message = message_at(alloc, path, text, start, told)?;
+    let others = other_notes(alloc, path, text)?;
+    message.push_str(others.as_str())?;
+    Ok(Some(message))
+}
+
+/// What is told of a broken rule, and where the program declares what is meant.
+pub(crate) fn rule_told(
     alloc: Global,
     list: &TokenList,
     near: Spelled<'_>,
     fault: TypeFault,
 ) -> Result<Told, AllocError> {
     match parse(alloc, list) {
-        Ok(ast) => typing(alloc, &ast, &near, fault),
+        Ok(ast) => {
+            let told = typing(alloc, &ast, &near, fault)?;
+            told.with_some(alloc, declared(alloc, list, &ast, &near, fault)?)
+        }
         Err(_) => Err(AllocError),
     }
 }
 
 /// The place of the token at which a rule is broken. Want of memory has none.
-fn rule_place(fault: TypeFault) -> Option<u64>
+pub(crate) fn rule_place(fault: TypeFault) -> Option<u64>
     ensures place { IfSome result (λ place. place ≡ rule_place fault) }
     ensures rule { IfSome result (λ place. fault ≢ TypeFault.NoMemory) }
 {

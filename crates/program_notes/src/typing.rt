@@ -1,6 +1,7 @@
 //! Messages of broken typing rules.
 
 use crate::clash::{Clash, clash_at};
+use crate::declared::struct_before;
 use crate::names::{
     did_you_mean, fields, functions, has_name, locals, root_struct, structs, type_text,
 };
@@ -61,7 +62,7 @@ fn no_root(alloc: Global) -> Result<Told, AllocError> {
 fn unknown(alloc: Global, ast: &Ast, near: &Spelled<'_>, name: &str) -> Result<Told, AllocError> {
     let last = near.before(1);
     if last == b"->".as_slice() {
-        return nearest_of(alloc, "field", near, name, &fields(alloc, ast, None)?);
+        return unknown_in_object(alloc, ast, near, name);
     }
     if last == b".".as_slice() {
         return unknown_in_root(alloc, ast, near, name);
@@ -117,6 +118,22 @@ fn unknown_in_root(
     let names = fields(alloc, ast, Some(root))?;
     let told = Told::new(alloc, what.as_str())?;
     told.with_some(alloc, did_you_mean(alloc, near.here(), &names, "root.")?)
+}
+
+fn unknown_in_object(
+    alloc: Global,
+    ast: &Ast,
+    near: &Spelled<'_>,
+    name: &str,
+) -> Result<Told, AllocError> {
+    let Some(of) = struct_before(alloc, ast, near)? else {
+        return nearest_of(alloc, "field", near, name, &fields(alloc, ast, None)?);
+    };
+    let of = of.as_str();
+    let what = format!(in alloc; "`struct {of}` has no field `{name}`")?;
+    let names = fields(alloc, ast, Some(of))?;
+    let told = Told::new(alloc, what.as_str())?;
+    told.with_some(alloc, did_you_mean(alloc, near.here(), &names, "")?)
 }
 
 fn unknown_variable(
@@ -488,7 +505,10 @@ fn another_value(
         alloc,
         program,
         ("the function gives ", wanted),
-        (", and this `return` ", ty),
+        (", and this `return` gives ", ty),
     )?;
+    if wanted == ValueType::Int && ty == ValueType::Null {
+        return told.with(alloc, "`NULL` is a pointer: write 0");
+    }
     null_for(alloc, told, ty)
 }
