@@ -26,11 +26,11 @@ use Rattle.cnvm_session.specs.Pool.{sizes_of}
 use Rattle.cnvm_session.proofs.Writing.{written_word, written_rest}
 use Rattle.session_law.specs.Agrees.{Agrees}
 use Rattle.session_law.specs.Answers.{Powers}
-use Rattle.session_law.specs.Holds.{HoldsPool, IsResting, OwesNone, HoldsAs, Holds}
+use Rattle.session_law.specs.Holds.{HoldsPool, IsResting, OwesNone, HoldsAs, Holds, HeldAs}
 use Rattle.session_law.specs.Ran.{Moment}
 use Rattle.session_law.specs.State.{Standing, Ready, Down, Unusable, SourceState}
 use Rattle.session_law.proofs.Ones.{rest_images}
-use Rattle.session_law.proofs.Powers.{HeldAs, held_recovers}
+use Rattle.session_law.proofs.Powers.{held_recovers}
 use Rattle.session_law.proofs.Resting.{resting_owes}
 use Rattle.file_law.specs.Moved.{is_digest_word, moved_words, AreBetween, HasDigest, IsMoveCut}
 use Rattle.file_law.specs.Moved.{IsMended, MovingReopenLaw}
@@ -58,16 +58,13 @@ module _ (former new : Program) (super : Words) (x : Moment) (b : Device) (f : F
   abbrev s : SourceState
   s = x.state
 
-  -- the moment at which the move was cut
-  abbrev y : Moment
-  y = record x { device = b }
-
   abbrev image : Words
   image = image_words words
 
   -- an image of the device before the move, which the words are but for their digest
   near : (before : Words) × IsImage x.device.cache before × AreBetween new before image
-  near = moving_cut new x.device b cut.moves image (left_image former y f words cut.left)
+  near = moving_cut new x.device b cut.moves image
+      (left_image b f words cut.left.past cut.left.covers cut.left.left cut.left.whole)
 
   module _ (program : Program) (sizes : sizes_of program ≡ sizes_of former)
       (pool : (h : Words) → HoldsPool former h s → HoldsPool program h s) (e : Device)

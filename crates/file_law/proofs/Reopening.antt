@@ -7,7 +7,8 @@ use Rattle.cache_model.specs.Cache.{Words, Line, view, blank}
 use Rattle.cache_model.specs.Image.{IsVersion, IsImage, Images}
 use Rattle.cache_model.specs.Play.{play}
 use Rattle.pmem.specs.Device.{Device, memory_of, blanked}
-use Rattle.file_pmem.specs.File.{FileLines}
+use Rattle.file_pmem.specs.File.{FileLines, MayLeave}
+use Rattle.file_pmem.specs.Mirror.{CoversCopies, IsBlankPast}
 use Rattle.file_pmem.proofs.Crashes.{crash}
 use Rattle.pool_layout.specs.Image.{image_words}
 use Rattle.pool_layout.specs.Sizes.{pool_lines}
@@ -25,14 +26,13 @@ use Rattle.cnvm_session.specs.Opening.{opening_events}
 use Rattle.cnvm_session.specs.Pool.{sizes_of}
 use Rattle.cnvm_session.proofs.Writing.{written_word, written_rest}
 use Rattle.session_law.specs.Answers.{Powers}
-use Rattle.session_law.specs.Holds.{HoldsAs, OwesNone, OwesBy}
-use Rattle.session_law.specs.Ran.{Moment}
+use Rattle.session_law.specs.Holds.{HoldsAs, OwesNone, OwesBy, HeldAs}
 use Rattle.session_law.specs.State.{Pending, Standing, Ready, Down, Unusable, SourceState}
 use Rattle.session_law.proofs.Ones.{rest_images}
 use Rattle.pmem.proofs.Refused.{all_cache, all_on}
-use Rattle.session_law.proofs.Powers.{HeldAs, held_recovers}
+use Rattle.session_law.proofs.Powers.{held_recovers}
 use Rattle.session_law.proofs.Resting.{resting_owes}
-use Rattle.file_law.specs.Law.{IsLeft, ReopenLaw}
+use Rattle.file_law.specs.Law.{ReopenLaw}
 
 -- what holds of each image of the one device holds of each image of the other
 module _ (program : Program) (super : Words) (d e : Device) (s : SourceState)
@@ -76,33 +76,34 @@ past [] p more = refl
 past (x ∷ xs) zero more = absurd (omega arith)
 past (x ∷ xs) (suc p) more = past xs p (omega arith)
 
--- The words that are left are an image of the device: of each line one version, and zeros past the
--- last line.
-module _ (program : Program) (x : Moment) (f : FileLines) (words : List ℤ)
-    (is : IsLeft program x f words) where
+-- The words that a crash may leave of a file that covers the device are an image of it: of each
+-- line one version, and zeros past the last line.
+module _ (d : Device) (f : FileLines) (words : List ℤ) (blank_past : IsBlankPast (memory_of d))
+    (covers : CoversCopies f (memory_of d)) (may : MayLeave f d.lines (image_words words))
+    (whole : length words ≡ 8 * d.lines) where
   abbrev OfLine : ℕ → Type 0
-  OfLine l = (v : Words) × IsVersion (x.device.cache l) v
+  OfLine l = (v : Words) × IsVersion (d.cache l) v
       × ((p : ℕ) → p / 8 ≡ l → image_words words p ≡ v p)
 
-  inside_line : (l : ℕ) → l < x.device.lines → OfLine l
+  inside_line : (l : ℕ) → l < d.lines → OfLine l
   inside_line l lt =
-      let left = crash f (memory_of x.device) (image_words words) is.covers is.left in
+      let left = crash f (memory_of d) (image_words words) covers may in
       let one = left.1 l in (
         one.0,
         one.1,
-        λ p e. left.2 p (subst (λ (j : ℕ). j < x.device.lines) (sym e) lt) ∙ one.2 p e,
+        λ p e. left.2 p (subst (λ (j : ℕ). j < d.lines) (sym e) lt) ∙ one.2 p e,
       )
 
-  outside_line : (l : ℕ) → x.device.lines ≤ l → OfLine l
+  outside_line : (l : ℕ) → d.lines ≤ l → OfLine l
   outside_line l le = (
     (blank l).newest,
-    inl (ap (λ (y : Line). y.newest) (sym (is.past l le))),
-    λ p e. past words p (let w = is.whole in omega (arith, w, e, le)),
+    inl (ap (λ (y : Line). y.newest) (sym (blank_past l le))),
+    λ p e. past words p (omega (arith, whole, e, le)),
   )
 
-  pub left_image : IsImage x.device.cache (image_words words)
-  left_image l = ⊎_elim (λ (lt : l < x.device.lines). inside_line l lt)
-      (λ (le : x.device.lines ≤ l). outside_line l le) (cases_lt l x.device.lines)
+  pub left_image : IsImage d.cache (image_words words)
+  left_image l = ⊎_elim (λ (lt : l < d.lines). inside_line l lt)
+      (λ (le : d.lines ≤ l). outside_line l le) (cases_lt l d.lines)
 
 pub reopened : ReopenLaw
 reopened program super x f words d b n a k k1 agrees holds is opens =
@@ -117,7 +118,8 @@ reopened program super x f words d b n a k k1 agrees holds is opens =
     ap view played ∙ (λ i p. written_word words lines p i) in
     let carry = λ (P : Words → Type 0) (all : Images P x.device.cache).
     rest_images P e.cache rest
-    (subst P (sym seen) (all (image_words words) (left_image program x f words is))) in
+    (subst P (sym seen) (all (image_words words)
+    (left_image x.device f words is.past is.covers is.left is.whole))) in
     let held = carried program super x.device e x.state carry x.mode x.state.standing holds in
     let done = held_recovers program super agrees e x.state on rest a n b k k1 opens.recovers held
     in (

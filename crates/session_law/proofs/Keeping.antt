@@ -37,14 +37,14 @@ use Rattle.session_law.specs.State.{Pending, Standing, Ready, Down, Unusable, So
 use Rattle.session_law.specs.State.{standing_as, undone_as}
 use Rattle.session_law.specs.Answers.{FindsOf, FindsOwed, Rests}
 use Rattle.session_law.specs.Answers.{RedoesBy, Recovers, Powers}
-use Rattle.session_law.specs.Holds.{HoldsPool, IsResting, OwesNone, OwesBy, Holds}
+use Rattle.session_law.specs.Holds.{HoldsPool, IsResting, OwesNone, OwesBy, Holds, HeldAs}
 use Rattle.session_law.specs.Law.{IsRollback}
 use Rattle.session_law.proofs.Ones.{rest_images, at_view}
 use Rattle.session_law.proofs.Reading.{is_marked, is_unsealed, is_owed}
 use Rattle.session_law.proofs.Restoring.{Restores, KeepsIn, not_next, good_restores, owed_restores}
 use Rattle.session_law.proofs.Restoring.{cut_restores, end_sealed}
 use Rattle.session_law.proofs.Recoveries.{marked_recovers, rest_left, redo_left, redo_restores}
-use Rattle.session_law.proofs.Powers.{HeldAs, not_owing, owing_as}
+use Rattle.session_law.proofs.Powers.{not_owing, owing_as}
 use Rattle.session_law.proofs.Histories.{finished_counts}
 
 -- the step finishes no transaction, or rolls back the one that it finishes

@@ -51,14 +51,14 @@ use Rattle.session_law.specs.Agrees.{Agrees, RunsAs}
 use Rattle.session_law.specs.State.{Down, Unusable, SourceState}
 use Rattle.session_law.specs.Answers.{Powers}
 use Rattle.session_law.specs.Opened.{opened_heap, recorded_in, opened}
-use Rattle.session_law.specs.Holds.{HoldsPool, OwesNone, OwesBy, Holds}
+use Rattle.session_law.specs.Holds.{HoldsPool, OwesNone, OwesBy, Holds, HeldAs}
 use Rattle.session_law.proofs.Words.{AreAll, pool_words, restored_words, recorded_words}
 use Rattle.session_law.proofs.Heaps.{length_words}
 use Rattle.session_law.proofs.Ones.{rest_images}
 use Rattle.session_law.proofs.Retired.{attempt_small}
 use Rattle.session_law.proofs.Reading.{kind_read, taken_is, next_done}
 use Rattle.session_law.proofs.Exact.{run_recorded}
-use Rattle.session_law.proofs.Powers.{HeldAs, held_recovers}
+use Rattle.session_law.proofs.Powers.{held_recovers}
 use Rattle.cnvm_session.proofs.Writing.{written_word, written_rest}
 
 -- each mark from 1 to 8 is the number of a trap

@@ -44,13 +44,13 @@ use Rattle.session_law.specs.Agrees.{Agrees}
 use Rattle.session_law.specs.State.{Pending, Standing, Ready, Down, Unusable, SourceState}
 use Rattle.session_law.specs.Answers.{HasSeal, FindsOwed, Recovers, Powers}
 use Rattle.session_law.specs.Opened.{opened}
-use Rattle.session_law.specs.Holds.{OwesNone, OwesBy, HoldsAs, Holds}
+use Rattle.session_law.specs.Holds.{OwesNone, OwesBy, HoldsAs, Holds, HeldAs}
 use Rattle.session_law.specs.Ran.{Moment, SessionStep}
 use Rattle.session_law.specs.Law.{HasPhase, RecoveryPhaseLaw}
 use Rattle.session_law.proofs.Ones.{at_view, left_rest}
 use Rattle.session_law.proofs.Reading.{is_marked, is_owed}
 use Rattle.session_law.proofs.Recoveries.{redo_keeps_seal}
-use Rattle.session_law.proofs.Powers.{HeldAs, owing_as, left_held}
+use Rattle.session_law.proofs.Powers.{owing_as, left_held}
 use Rattle.cnvm_session.proofs.Writing.{written_rest, written_word}
 use Rattle.session_law.proofs.Opening.{opened_held}
 use Rattle.session_law.proofs.Histories.{finished_counts}

@@ -41,7 +41,7 @@ use Rattle.session_law.specs.State.{standing_as, done_with, undone_as}
 use Rattle.session_law.specs.Answers.{HasSeal, IsConcluded, FindsOf, FindsOwed, Rests}
 use Rattle.session_law.specs.Answers.{RedoesBy, Recovers, MarksAs}
 use Rattle.session_law.specs.Answers.{IsMarked, Powers}
-use Rattle.session_law.specs.Holds.{HoldsPool, OwesNone, OwesBy, HoldsAs, Holds}
+use Rattle.session_law.specs.Holds.{HoldsPool, OwesNone, OwesBy, HoldsAs, Holds, HeldAs}
 use Rattle.session_law.proofs.Words.{held_words}
 use Rattle.session_law.proofs.Ones.{rest_images, at_view, left_rest, at_left}
 use Rattle.session_law.proofs.Reading.{is_marked, is_unsealed, is_owed}
@@ -95,15 +95,6 @@ powers_of program s found t image answer.RefusedDown mark finds is = (mark, (fou
 powers_of program s found t image answer.RefusedUnknown mark finds is = (mark, (found, finds, is))
 powers_of program s found t image answer.RefusedArity mark finds is = (mark, (found, finds, is))
 powers_of program s found t image answer.RefusedNumbers mark finds is = (mark, (found, finds, is))
-
--- what a device holds after its power is back, by how the session stood
-abbrev pub HeldAs : Standing → Program → Words → Device → SourceState → Type 0
-HeldAs Ready program super e s = OwesNone program super e s
-HeldAs (Down None) program super e s = OwesNone program super e s
-HeldAs (Down (Some owed)) program super e s =
-    OwesBy (rolls_back_of program owed.tx) program super owed e s
-HeldAs (Unusable kind) program super e s =
-    Images (Lost program.image.parts.sizes (trap_number kind)) e.cache
 
 -- a state that is down with nothing owed
 down_same : (found : SourceState) → found.standing ≡ Down None

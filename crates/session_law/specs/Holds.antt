@@ -77,3 +77,12 @@ HoldsAs (Unusable kind) program super m d s =
 
 abbrev pub Holds : Program → Words → Mode → Device → SourceState → Type 0
 Holds program super m d s = HoldsAs s.standing program super m d s
+
+-- What is known of whatever a power cut or a crash leaves of the device, by how the session stands.
+abbrev pub HeldAs : Standing → Program → Words → Device → SourceState → Type 0
+HeldAs Ready program super d s = OwesNone program super d s
+HeldAs (Down None) program super d s = OwesNone program super d s
+HeldAs (Down (Some owed)) program super d s =
+    OwesBy (rolls_back_of program owed.tx) program super owed d s
+HeldAs (Unusable kind) program super d s =
+    Images (Lost program.image.parts.sizes (trap_number kind)) d.cache

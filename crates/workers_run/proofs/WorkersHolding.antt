@@ -23,6 +23,7 @@ use Rattle.workers_run.specs.declared.fault.RunFault.{RunFault}
 use Rattle.workers_run.specs.declared.fault.RunFault.TheVariants as fault
 use Rattle.workers_run.specs.WorkersRan.{lines_text, RunsWorkers, BreaksOff, OpensWorkers}
 use Rattle.workers_run.specs.WorkersHeld.{RunsSome, EndsAt, BreaksHeld, HeldAs}
+use Rattle.session_run.proofs.Running.{keeps_same}
 use Rattle.workers_run.proofs.WorkersRuns.{part_none, breaks_here}
 
 module _ (p : Program) (cs : List WorkersCommand) (i : ℕ) (c : WorkersCommand)
@@ -139,6 +140,8 @@ pub idle_again : (count : ℕ) (ts : Tasks) → ts ≡ replicate count None
 idle_again count ts idle =
     idle ∙ ap (λ (n : ℕ). replicate n None)
     (sym (ap (λ (us : Tasks). length us) idle ∙ length-replicate count None))
+
+pub ruleset held_runs = (keeps_same, idle_again)
 
 -- the lines of new compartments
 pub created_lines : (program : Program) (count : ℕ) (session : WorkersState) (d : Device)

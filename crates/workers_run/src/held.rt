@@ -103,7 +103,7 @@ fn answer_held<K: Sink, N: Lines + Drop, F: LineFile + Drop, L: Ledger>(
 /// Opens the compartments with these words, which are those of the file, mirrors them in the file,
 /// and writes how each was recovered; then runs the commands, and writes the lines of each before
 /// the next.
-#[tactic(auto, using(session_run::proofs::Running::keeps_same, crate::proofs::WorkersHolding::idle_again))]
+#[tactic(auto, using(crate::proofs::WorkersHolding::held_runs))]
 pub fn run_held<K: Sink, N: Lines + Drop, F: LineFile + Drop, L: Ledger>(
     alloc: Global,
     program: &Program,

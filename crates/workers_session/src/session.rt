@@ -1,7 +1,7 @@
 //! The workers of a program on one device, and what each command does to them.
 
 ghost use Rattle.std.specs.Prelude.{ℕ, ◌≡◌, ◌+◌, ◌*◌, ◌≤◌, ◌<◌, ◌++◌, true, false, length, None};
-ghost use Rattle.std.specs.Prelude.{Some, IfOk, IfErr, IfNone, IsNone, OnOk, OnErr, IsErrOf, List};
+ghost use Rattle.std.specs.Prelude.{Some, IfOk, IfErr, IfNone, IsNone, OnOk, IsErrOf, List};
 ghost use Rattle.std.specs.Prelude.{[], ◌∷◌, replicate};
 ghost use Rattle.pmem.specs.Device.{FaultsRose, blanked, powered};
 ghost use Rattle.pmem.specs.Played.{PlaysAll};

@@ -8,6 +8,7 @@ pub mod Powering
 pub mod Commands
 pub mod Runs
 pub mod Opened
+pub mod Reopening
 pub mod Scripts
 pub mod FaultLines
 pub mod Counts

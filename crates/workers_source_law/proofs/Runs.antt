@@ -10,6 +10,7 @@ use Rattle.pool_layout.specs.Sizes.{pool_lines}
 use Rattle.args_log.specs.Created.{creation_events}
 use Rattle.crash_law.specs.Law.{AreMarked}
 use Rattle.pool_workers.specs.declared.task.Task.{Task}
+use Rattle.pool_workers.specs.Crew.{compartment}
 use Rattle.workers_law.specs.AsCall.{quiet_on}
 use Rattle.workers_law.specs.Standing.{ShowsPlayed}
 use Rattle.workers_law.proofs.AsCalls.{plays_quiet}
@@ -30,7 +31,8 @@ use Rattle.session_law.proofs.Creating.{created_rests}
 use Rattle.workers_source_law.specs.States.{States, all_created}
 use Rattle.workers_source_law.specs.Law.{HasWordArgs, RanWorkers, BrokeOff, WorkersLaw}
 use Rattle.workers_source_law.specs.Law.{WorkersPartLaw}
-use Rattle.workers_source_law.proofs.Stills.{still, own, marks_play, rest_same}
+use Rattle.workers_source_law.specs.Reopened.{AllHeld, new_firsts, NewHeldLaw, NewHeldPartLaw}
+use Rattle.workers_source_law.proofs.Stills.{still, own, marks_play, rest_same, fewer_held}
 use Rattle.workers_source_law.proofs.Invariants.{Stands, AllStand, stands_rest}
 use Rattle.workers_source_law.proofs.Recoveries.{still_rest}
 use Rattle.workers_source_law.proofs.Commands.{command_gives, all_hold}
@@ -45,10 +47,6 @@ module _ (program : Program) where
   abbrev super : Words
   super = super_words program
 
-  -- the words of lines 0 and 1 of new compartments
-  abbrev pub new_supers : ℕ → Words
-  new_supers worker = super_words program
-
   abbrev events : List CacheEvent
   events = creation_events (sizes_of program) program.digest
 
@@ -62,7 +60,7 @@ module _ (program : Program) where
       (created_rests program (quiet_on n blank) (quiet_on n made) (plays_quiet n events blank)).1
 
   new_stands : (count : ℕ) (d b : Device) (k : ℕ) → AreCreated program count d b
-      → AllStand program new_supers (scene_of (new_workers count) b k) (all_created program)
+      → AllStand program (new_firsts program) (scene_of (new_workers count) b k) (all_created program)
   new_stands count d b k is j less =
       let shown : ShowsPlayed events [] blank (own program j b) =
       laws.created (sizes_of program) program.digest count d b is j
@@ -80,9 +78,12 @@ module _ (program : Program) where
         (w w' : Option (List ℕ)) → AllByRecursion HasWordArgs commands
         → AllStand program supers x s → RunsWorkers program commands x w y w'
         → (t : States) × RanWorkers program commands (record { scene = x; states = s }) w
-        (record { scene = y; states = t }) w'
-    runs_give [] x y s w w' words all is =
-        (s, (λ i. record { scene = is.0 i; states = s }, is.1))
+        (record { scene = y; states = t }) w' × AllStand program supers y t
+    runs_give [] x y s w w' words all is = (
+      s,
+      (λ i. record { scene = is.0 i; states = s }, is.1),
+      subst (λ (v : Scene). AllStand program supers v s) (sym is.0) all,
+    )
     runs_give (c ∷ commands) x y s w w' words all is =
         let z = is.1 in
         let one = command_gives program supers agrees c x z s is.0 words.0 all is.3 in
@@ -101,13 +102,14 @@ module _ (program : Program) where
             is.4,
             more.1,
           ),
+          more.2,
         )
 
     pub breaks_give : (commands : List WorkersCommand) (x y : Scene) (s : States)
         (w w' : Option (List ℕ)) → AllByRecursion HasWordArgs commands
         → AllStand program supers x s → BreaksOff program commands x w y w'
         → (t : States) × BrokeOff program commands (record { scene = x; states = s }) w
-        (record { scene = y; states = t }) w'
+        (record { scene = y; states = t }) w' × AllStand program supers y t
     breaks_give [] x y s w w' words all is = absurd is
     breaks_give (c ∷ commands) x y s w w' words all (inl is) =
         let one = command_gives program supers agrees c x y s is.0 words.0 all is.1 in (
@@ -122,6 +124,7 @@ module _ (program : Program) where
             },
             is.2,
           ),
+          one.2,
         )
     breaks_give (c ∷ commands) x y s w w' words all (inr is) =
         let z = is.1 in
@@ -141,34 +144,58 @@ module _ (program : Program) where
             is.4,
             more.1,
           ),
+          more.2,
         )
+
+-- what is held of each compartment, as the laws say it
+pub held_all : (program : Program) (supers : ℕ → Words) (y : Scene) (t : States)
+    → AllStand program supers y t → AllHeld program supers (record { scene = y; states = t })
+held_all program supers y t all j less =
+    fewer_held program (supers j) (t j).standing (still (own program j y.device))
+    (compartment program.image j y.device) (t j) (λ image is. is) (all j less).held
+
+pub new_run : NewHeldLaw
+new_run program count commands w w' d d' k k' agrees words is =
+    let supers = new_firsts program in
+    let begins : Scene = scene_of (new_workers count) is.0 k in
+    let ends : Scene = scene_of is.1 d' k' in
+    let all = new_stands program count d is.0 k is.2 in
+    let ran = runs_give program supers agrees commands begins ends (all_created program) w w' words
+    all is.3 in (
+      (
+        is.0,
+        is.1,
+        ran.0,
+        is.2,
+        all_hold program supers begins (all_created program) all,
+        ran.1,
+      ),
+      held_all program supers ends ran.0 ran.2,
+    )
+
+pub new_part : NewHeldPartLaw
+new_part program count commands w w' d d' k k' agrees words is =
+    let supers = new_firsts program in
+    let begins : Scene = scene_of (new_workers count) is.0 k in
+    let ends : Scene = scene_of is.1 d' k' in
+    let all = new_stands program count d is.0 k is.2 in
+    let broke = breaks_give program supers agrees commands begins ends (all_created program) w w'
+    words all is.3 in (
+      (
+        is.0,
+        is.1,
+        broke.0,
+        is.2,
+        all_hold program supers begins (all_created program) all,
+        broke.1,
+      ),
+      held_all program supers ends broke.0 broke.2,
+    )
 
 pub workers_run : WorkersLaw
 workers_run program count commands w w' d d' k k' agrees words is =
-    let all = new_stands program count d is.0 k is.2 in
-    let ran = runs_give program (new_supers program) agrees commands
-    (scene_of (new_workers count) is.0 k) (scene_of is.1 d' k') (all_created program) w w' words
-    all is.3 in (
-      is.0,
-      is.1,
-      ran.0,
-      is.2,
-      all_hold program (new_supers program) (scene_of (new_workers count) is.0 k)
-          (all_created program) all,
-      ran.1,
-    )
+    (new_run program count commands w w' d d' k k' agrees words is).0
 
 pub workers_part : WorkersPartLaw
 workers_part program count commands w w' d d' k k' agrees words is =
-    let all = new_stands program count d is.0 k is.2 in
-    let ran = breaks_give program (new_supers program) agrees commands
-    (scene_of (new_workers count) is.0 k) (scene_of is.1 d' k') (all_created program) w w' words
-    all is.3 in (
-      is.0,
-      is.1,
-      ran.0,
-      is.2,
-      all_hold program (new_supers program) (scene_of (new_workers count) is.0 k)
-          (all_created program) all,
-      ran.1,
-    )
+    (new_part program count commands w w' d d' k k' agrees words is).0

@@ -172,37 +172,46 @@ WorkersPartLaw =
     BreaksOffNew program count commands w w' d d' k k'
     → BrokeOffNew program count commands w w' d d' k k'
 
--- The compartments of these images are opened: what the machine and the device did, what the source
--- says of the lines of the recoveries, from what it knows of the images, and what the compartments
--- then hold.
-pub record OpenedStep (program : Program) (count : ℕ) (words : List ℤ) (d : Device) (k : ℕ)
-    (lines : List WorkersLine) (y : Instant) : Type 0 where
+-- The compartments of these images are opened, where the source knows this of the workers: what the
+-- machine and the device did, what the source says of the lines of the recoveries, and what the
+-- compartments then hold.
+pub record OpenedStep (program : Program) (count : ℕ) (from : States) (words : List ℤ) (d : Device)
+    (k : ℕ) (lines : List WorkersLine) (y : Instant) : Type 0 where
   pub did : OpensWorkers program count words d k lines y.scene
-  pub meant : RecoveryLines program (image_at program words) 0 lines (all_opened program words)
-      y.states
+  pub meant : RecoveryLines program (image_at program words) 0 lines from y.states
   pub holds : AllHold program y
 
 -- The compartments are opened, the lines of their recoveries are written, and the run on them is
 -- such a chain.
-abbrev pub RanOpened : Program → (count : ℕ) → List WorkersCommand → List ℤ
+abbrev pub RanFrom : Program → (count : ℕ) → States → List WorkersCommand → List ℤ
     → (w w' : Option (List ℕ)) → (d d' : Device) → (k k' : ℕ) → Type 0
-RanOpened program count commands words w w' d d' k k' =
+RanFrom program count from commands words w w' d d' k k' =
     (lines : List WorkersLine) × (x : Instant) × (w1 : Option (List ℕ)) × (s : WorkersState)
-    × (t : States) × OpenedStep program count words d k lines x
+    × (t : States) × OpenedStep program count from words d k lines x
     × Appends w w1 (lines_text lines)
     × RanWorkers program commands x w1 (last_instant s d' k' t) w'
 
 -- the same where the lines of the recoveries are written in part, or the run breaks off
+abbrev pub BrokeOffFrom : Program → (count : ℕ) → States → List WorkersCommand → List ℤ
+    → (w w' : Option (List ℕ)) → (d d' : Device) → (k k' : ℕ) → Type 0
+BrokeOffFrom program count from commands words w w' d d' k k' =
+    (lines : List WorkersLine) × (s : WorkersState) × (t : States)
+    × ((OpenedStep program count from words d k lines (last_instant s d' k' t)
+    × AppendsPart w w' (lines_text lines))
+    ⊎ ((x : Instant) × (w1 : Option (List ℕ))
+    × OpenedStep program count from words d k lines x × Appends w w1 (lines_text lines)
+    × BrokeOff program commands x w1 (last_instant s d' k' t) w'))
+
+-- what the source knows of the workers is what it knows of the images
+abbrev pub RanOpened : Program → (count : ℕ) → List WorkersCommand → List ℤ
+    → (w w' : Option (List ℕ)) → (d d' : Device) → (k k' : ℕ) → Type 0
+RanOpened program count commands words w w' d d' k k' =
+    RanFrom program count (all_opened program words) commands words w w' d d' k k'
+
 abbrev pub BrokeOffOpened : Program → (count : ℕ) → List WorkersCommand → List ℤ
     → (w w' : Option (List ℕ)) → (d d' : Device) → (k k' : ℕ) → Type 0
 BrokeOffOpened program count commands words w w' d d' k k' =
-    ((lines : List WorkersLine) × (s : WorkersState) × (t : States)
-    × OpenedStep program count words d k lines (last_instant s d' k' t)
-    × AppendsPart w w' (lines_text lines))
-    ⊎ ((lines : List WorkersLine) × (x : Instant) × (w1 : Option (List ℕ)) × (s : WorkersState)
-    × (t : States) × OpenedStep program count words d k lines x
-    × Appends w w1 (lines_text lines)
-    × BrokeOff program commands x w1 (last_instant s d' k' t) w')
+    BrokeOffFrom program count (all_opened program words) commands words w w' d d' k k'
 
 -- The same of a run on compartments that are opened from images.
 abbrev pub OpenedWorkersLaw : Type 0

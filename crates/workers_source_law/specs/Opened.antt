@@ -24,5 +24,6 @@ pub record AreOpened (program : Program) (count : ℕ) (words : List ℤ) : Type
 abbrev pub image_at : Program → List ℤ → (worker : ℕ) → Words
 image_at program words worker = image_words (words_within (sizes_of program) worker words)
 
+-- what the source knows of each worker's image
 abbrev pub all_opened : Program → List ℤ → States
 all_opened program words worker = opened program (image_at program words worker)

@@ -8,6 +8,9 @@
 
 ghost use Rattle.workers_source_law.specs.Law.{WorkersLaw, WorkersPartLaw, OpenedWorkersLaw};
 ghost use Rattle.workers_source_law.specs.Law.{OpenedWorkersPartLaw, ArgsLaw};
+ghost use Rattle.workers_source_law.specs.Reopened.{NewHeldLaw, NewHeldPartLaw, OpenedHeldLaw};
+ghost use Rattle.workers_source_law.specs.Reopened.{OpenedHeldPartLaw, ReopenedLaw};
+ghost use Rattle.workers_source_law.specs.Reopened.{ReopenedPartLaw};
 ghost use Rattle.workers_source_law.specs.FaultsTold.{ToldFaultLaw, RunFaultLaw};
 ghost use Rattle.workers_source_law.specs.Alone.{AloneLaw, AlonePartLaw, AsCallLaw};
 ghost use Rattle.workers_source_law.specs.OwnHistory.{OwnSealedLaw, OwnHistoryLaw, OwnPoolLaw};
@@ -20,6 +23,17 @@ pub fn source_law()
     ensures opened { OpenedWorkersLaw }
     ensures opened_part { OpenedWorkersPartLaw }
     ensures words { ArgsLaw }
+{}
+
+/// What a crash leaves of the file of several workers is recovered as what a power cut leaves of
+/// their device, over any number of processes. The function does nothing.
+pub fn reopen_law()
+    ensures new { NewHeldLaw }
+    ensures new_part { NewHeldPartLaw }
+    ensures opened { OpenedHeldLaw }
+    ensures opened_part { OpenedHeldPartLaw }
+    ensures reopened { ReopenedLaw }
+    ensures reopened_part { ReopenedPartLaw }
 {}
 
 /// The count of faults never falls, and a command tells that the device failed only where it rose.
