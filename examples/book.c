@@ -2,7 +2,7 @@
 #include <stdint.h>
 
 struct Entry { int64_t amount; struct Entry *next; };
-struct Book { int64_t sum; int64_t count; struct Entry *first; };
+struct Book { int64_t sum, count; struct Entry *first; };
 persistent struct Book root;
 
 int64_t allowed(int64_t amount) {

@@ -3,7 +3,7 @@
 // and what stands beside the keys.
 enum { ORDER = 8, KEYS = ORDER - 1, HALF = ORDER / 2, LEAST = HALF - 1 };
 
-struct Node { int64_t n; int64_t key[KEYS]; struct Rest *rest; };
+struct Node { int64_t n, key[KEYS]; struct Rest *rest; };
 struct Rest { int64_t value[KEYS]; struct Node *slot[ORDER]; };
 struct Map { struct Node *top; int64_t size; };
 persistent struct Map root;

@@ -2,10 +2,10 @@
 code.
 
 Each program has constants, a root with fields and an array, objects in a list, helper functions,
-and a transaction of two arguments, with every assignment that the language has, `while`, `do` and
-`for` loops with `break` and `continue`, and expressions of all operators. Nothing in it traps: a
-divisor is from 1 to 256, an index stays within its array, loops are bounded, and a shift's count is
-taken modulo 64."""
+and a transaction of two arguments, with every assignment that the language has, declarations of one
+and of several names, `while`, `do` and `for` loops with `break` and `continue`, and expressions of
+all operators. Nothing in it traps: a divisor is from 1 to 256, an index stays within its array,
+loops are bounded, and a shift's count is taken modulo 64."""
 
 import random
 
@@ -34,9 +34,10 @@ class Drawn:
     def items(self):
         low = self.constants["LOW"]
         yield f"enum {{ SIZE = {LENGTH}, LOW = {low}, MORE, LAST = SIZE * 2 - LOW }};"
-        yield "struct Node { int64_t v; struct Node *next; };"
-        yield ("struct Root { int64_t a; int64_t b; int64_t c; int64_t t[SIZE]; "
-               "struct Node *head; };")
+        links = self.fields("struct Node", ["*next", "*last"])
+        yield f"struct Node {{ {self.fields('int64_t', ['v', 'w'])} {links} }};"
+        numbers = self.fields("int64_t", ["a", "b", "c", "t[SIZE]"])
+        yield f"struct Root {{ {numbers} struct Node *head; }};"
         yield "persistent struct Root root;"
         self.locals = ["x", "y"]
         yield "int64_t helper(int64_t x, int64_t y) {"
@@ -49,6 +50,12 @@ class Drawn:
         yield from self.block(5, 1, calls=True)
         yield f"    return {self.expression(3)};"
         yield "}"
+
+    def fields(self, type, names):
+        """Declarations of these names, some of them together."""
+        together = self.chance.randint(1, len(names))
+        lists = [names[:together], *([it] for it in names[together:])]
+        return " ".join(f"{type} {', '.join(it)};" for it in lists)
 
     def value(self):
         kind = self.chance.randrange(7)
@@ -106,6 +113,12 @@ class Drawn:
         self.names += 1
         return f"n{self.names}"
 
+    def begun(self):
+        """A new local with its first value, in which those before it are known."""
+        name, value = self.fresh(), self.expression(2)
+        self.locals.append(name)
+        return f"{name} = {value}"
+
     def block(self, count, depth, calls=False, loop=False):
         """Statements, each on a line; names that it declares are forgotten after it."""
         known = len(self.locals)
@@ -117,10 +130,8 @@ class Drawn:
     def statement(self, depth, calls, loop):
         kind = self.chance.randrange(9)
         if kind == 0 and depth < 4:
-            name = self.fresh()
-            line = f"int64_t {name} = {self.expression(2)};"
-            self.locals.append(name)
-            return [line]
+            names = [self.begun() for _ in range(self.chance.choice([1, 1, 2, 3]))]
+            return [f"int64_t {', '.join(names)};"]
         if kind in (1, 2) and depth < 4:
             return self.loop(depth, calls)
         if kind == 3 and depth < 4:
@@ -137,8 +148,10 @@ class Drawn:
                 call = f"{self.value()} ? {call} : helper({self.value()}, {self.value()})"
             return [f"{target} {update} {call};"]
         if kind == 6 and calls:
-            return [f"root.head->v {self.chance.choice(UPDATES)} {self.expression(1)};",
-                    f"{self.chance.choice(self.locals)} += root.head->v;"]
+            first, last = self.fresh(), self.fresh()
+            return [f"struct Node *{first} = root.head, *{last} = {first};",
+                    f"{last}->v {self.chance.choice(UPDATES)} {self.expression(1)};",
+                    f"{self.chance.choice(self.locals)} += {first}->v;"]
         return [self.assignment()]
 
     def loop(self, depth, calls):

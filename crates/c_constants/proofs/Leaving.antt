@@ -1,6 +1,6 @@
 -- The tokens that are left of a list whose numbers are words: they are at most 16,384, and their
 -- numbers are words.
-use Rattle.std.proofs.Common.{◌≡◌, ℕ, zero, suc, ◌-◌, ◌^◌, ℤ, pos, negsuc, Bool, true, false}
+use Rattle.std.proofs.Common.{◌≡◌, ℕ, zero, suc, ◌+◌, ◌-◌, ◌^◌, ℤ, pos, negsuc, Bool, true, false}
 use Rattle.std.proofs.Common.{List, [], ◌∷◌, ◌++◌, length, refl, subst, arith, length-append}
 use Rattle.std.specs.Prelude.{nat_lt, ◌==◌, if◌then◌else◌, slice_get, Option, None, Some, Result}
 use Rattle.std.specs.Prelude.{Ok, Err}
@@ -13,6 +13,10 @@ use Rattle.c_lexer.specs.declared.token.Placed.{Placed}
 use Rattle.c_lexer.specs.declared.token.Token.{Token}
 use Rattle.c_lexer.specs.declared.token.Token.TheVariants as token
 use Rattle.c_lexer.specs.TokenList.{Tokens}
+use Rattle.c_constants.specs.declared.declaration.Base.{Base}
+use Rattle.c_constants.specs.declared.declaration.Base.TheVariants as base
+use Rattle.c_constants.specs.declared.declaration.Stand.{Stand}
+use Rattle.c_constants.specs.declared.declaration.Stand.TheVariants as stand
 use Rattle.c_constants.specs.declared.entry.Entry.{Entry}
 use Rattle.c_constants.specs.declared.fault.ConstFault.{ConstFault}
 use Rattle.c_constants.specs.declared.fault.ConstFault.TheVariants.{TooLong}
@@ -20,6 +24,8 @@ use Rattle.c_constants.specs.declared.name.Constant.{Constant}
 use Rattle.c_constants.specs.declared.part.Part.{Part}
 use Rattle.c_constants.specs.declared.part.Part.TheVariants as part
 use Rattle.c_constants.specs.declared.pass.Pass.{Pass}
+use Rattle.c_constants.specs.Declarations.{these, base_tokens, left_by, base_ended, left_of}
+use Rattle.c_constants.specs.Declarations.{one_each_from, one_name_each, seen_of, stand_after}
 use Rattle.c_constants.specs.Entries as entries
 use Rattle.c_constants.specs.Laws.{IsWordToken, AreWordTokens, AreInRange, TokensLeftLaw}
 use Rattle.c_constants.specs.Parts.{part_at, name_at, next_place, token_part}
@@ -175,11 +181,48 @@ module _ (list : Tokens) (numbers : AreWordTokens list.tokens) where
   run_good zero p good = good.out
   run_good (suc steps) p good = done_good steps p (passes.is_done list p) good (run_good steps)
 
-pub left : TokensLeftLaw
-left all list numbers is =
-    subst HoldsInRange is (run_good all numbers (suc (length all.tokens)) (passes.first_pass all)
-    (record {
+constants_good : (list : Tokens) → AreWordTokens list.tokens
+    → HoldsInRange (passes.constants_left list)
+constants_good list numbers =
+    run_good list numbers (suc (length list.tokens)) (passes.first_pass list) (record {
       constants = tt;
       next = tt;
       out = record { few = omega arith; words = tt };
-    }))
+    })
+
+module _ (list : Tokens) (numbers : AreWordTokens list.tokens) where
+  these_words : (place : ℕ) → AreWordTokens (these (slice_get list.tokens place))
+  these_words place = by_got (slice_get list.tokens place) (got_word list.tokens place numbers)
+    where
+      by_got : (o : Option Placed) → IsWordGot o → AreWordTokens (these o)
+      by_got None h = tt
+      by_got (Some p) h = (h, tt)
+
+  base_words : (b : Base) → AreWordTokens (base_tokens list b)
+  base_words (base.Int64 word) = these_words word
+  base_words (base.Struct word name) = all_append IsWordToken (these (slice_get list.tokens word))
+      (these (slice_get list.tokens name)) (these_words word) (these_words name)
+
+  left_words : (p : Placed) (o : Option Base) → IsWordToken p → AreWordTokens (left_by list p o)
+  left_words p None w = (w, tt)
+  left_words p (Some b) w = (zero_word, base_words b)
+
+  each_words : (t : Stand) (place : ℕ) (ts : List Placed) → AreWordTokens ts
+      → AreWordTokens (one_each_from list t place ts)
+  each_words t place [] h = tt
+  each_words t place (p ∷ ts) h = all_append IsWordToken (left_of list t p)
+      (one_each_from list (stand_after t place (seen_of p.token)) (place + 1) ts)
+      (left_words p (base_ended t (seen_of p.token)) h.0)
+      (each_words (stand_after t place (seen_of p.token)) (place + 1) ts h.1)
+
+each_good : (list : Tokens) → AreWordTokens list.tokens → HoldsInRange (one_name_each list)
+each_good list numbers =
+    put_all_good (record { tokens = []; last = list.last; size = list.size })
+    (one_each_from list stand.Elsewhere 0 list.tokens)
+    (record { few = omega arith; words = tt })
+    (each_words list numbers stand.Elsewhere 0 list.tokens numbers)
+
+pub left : TokensLeftLaw
+left all list numbers is = subst HoldsInRange is
+    (then_good (passes.constants_left all) one_name_each (constants_good all numbers)
+    (λ out good. each_good out good.words))

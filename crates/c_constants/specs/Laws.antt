@@ -1,5 +1,4 @@
--- What the definitions leave of a list whose numbers are words: few tokens, and numbers that are
--- words.
+-- What is left of a list whose numbers are words: few tokens, and numbers that are words.
 use Rattle.std.specs.Prelude.{◌≡◌, ◌≤◌, List, length, Some, Ok}
 use Rattle.std.specs.List.{AllByRecursion}
 use Rattle.nvm_base.specs.Wrap.{IsWord}

@@ -10,7 +10,12 @@ use nvm_base::Text;
 use std::alloc::{AllocError, Global};
 
 /// Puts one more token after all others, if there is room.
-fn put_one(out: TokenList, token: Token, line: u64, start: u64) -> Result<TokenList, ConstFault>
+pub(crate) fn put_one(
+    out: TokenList,
+    token: Token,
+    line: u64,
+    start: u64,
+) -> Result<TokenList, ConstFault>
     ensures { (result ≡ Err ConstFault.NoMemory) ⊎ (result ≡ stand_ins.put_one out
         (record { token = token; line = line; start = start })) }
 {
@@ -54,7 +59,7 @@ fn put_word(out: TokenList, word: i64, line: u64, start: u64) -> Result<TokenLis
 }
 
 /// A token like this one.
-fn copied(alloc: Global, token: &Token) -> Result<Token, AllocError>
+pub(crate) fn copied(alloc: Global, token: &Token) -> Result<Token, AllocError>
     ensures { IfOk result (λ t. t ≡ token.now) }
 {
     match token {

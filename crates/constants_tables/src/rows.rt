@@ -88,7 +88,7 @@ fn repeated(
 }
 
 /// Texts, and what their constants leave in words or the refusal.
-const TEXTS: [(&str, &str); 46] = [
+const TEXTS: [(&str, &str); 56] = [
     ("", "1: end"),
     ("a\nb", "1: a 2: b end"),
     ("enum { };", "Syntax(1)"),
@@ -182,6 +182,46 @@ const TEXTS: [(&str, &str); 46] = [
             ABOVE, };\nORDER MIN NEXT LOW\nLESS ABOVE",
         "3: #8 #3 #4 OpenRound Tilde #9223372036854775807 CloseRound 4: OpenRound Minus #8 \
             CloseRound OpenRound Minus #7 CloseRound end",
+    ),
+    (
+        "{ int64_t a, b[2], c; d, e }",
+        "1: OpenBrace [Int64] a Semicolon [Int64] b OpenSquare #2 CloseSquare Semicolon [Int64] c \
+            Semicolon d Comma e CloseBrace end",
+    ),
+    (
+        "{ struct N *p = f(a, b),\n*q; }",
+        "1: OpenBrace [Struct] N Star p Assign f OpenRound a Comma b CloseRound Semicolon \
+            [Struct] N 2: Star q Semicolon CloseBrace end",
+    ),
+    (
+        "; int64_t a\n, b",
+        "1: Semicolon [Int64] a 2: Semicolon 1: [Int64] 2: b end",
+    ),
+    ("int64_t a, b", "1: [Int64] a Comma b end"),
+    (
+        "{ ) int64_t a, b",
+        "1: OpenBrace CloseRound [Int64] a Comma b end",
+    ),
+    (
+        "} int64_t f(int64_t a, b) { c, d",
+        "1: CloseBrace [Int64] f OpenRound [Int64] a Comma b CloseRound OpenBrace c Comma d end",
+    ),
+    (
+        "; int64_t a) , [1, (2, 3), 4], ,",
+        "1: Semicolon [Int64] a CloseRound Semicolon [Int64] OpenSquare #1 Comma OpenRound #2 \
+            Comma #3 CloseRound Comma #4 CloseSquare Semicolon [Int64] Semicolon [Int64] end",
+    ),
+    (
+        "; struct 5, a; struct, b",
+        "1: Semicolon [Struct] #5 Comma a Semicolon [Struct] Comma b end",
+    ),
+    (
+        "{ int64_t a = { 1, 2 }, b",
+        "1: OpenBrace [Int64] a Assign OpenBrace #1 Comma #2 CloseBrace Comma b end",
+    ),
+    (
+        "; enum { A = 3 }; int64_t A, b",
+        "1: Semicolon [Int64] #3 Semicolon [Int64] b end",
     ),
 ];
 
@@ -285,7 +325,7 @@ fn expressions_have_their_values(rt: HostRuntime) -> Result<(), Fail> {
 
 #[test]
 fn limits_are_exact(rt: HostRuntime) -> Result<(), Fail> {
-    let rows: [(&str, &str, u64, &str, &str); 14] = [
+    let rows: [(&str, &str, u64, &str, &str); 16] = [
         ("enum { A = -1 };", " A", 4097, "", "TooLong"),
         ("enum { A = -1 };", " A", 4096, " x", "TooLong"),
         (
@@ -295,6 +335,8 @@ fn limits_are_exact(rt: HostRuntime) -> Result<(), Fail> {
             ";\nenum { B = 1 / 0 };",
             "TooLong",
         ),
+        ("{ int64_t a", ", a", 5461, "", "TooLong"),
+        ("{ int64_t a", ", a", 5460, " b c", "TooLong"),
         ("enum { A = ", "(", 64, "1", "TooDeep(1)"),
         ("enum { A = ", "(", 63, "\n]", "Syntax(2)"),
         ("enum { A = ", "- ", 64, "1 };", "TooDeep(1)"),
@@ -324,5 +366,23 @@ fn limits_are_exact(rt: HostRuntime) -> Result<(), Fail> {
         let words = words_of(rt.alloc(), text.as_bytes())?;
         assert_eq!(rt; words.as_str(), want, "at {times} of {piece:?}");
     }
+    Ok(())
+}
+
+/// How many tokens are left of a text; 0 if it is refused.
+fn left_count(alloc: Global, text: &[u8]) -> u64 {
+    match tokens(alloc, text) {
+        Ok(list) => match constants(alloc, &list) {
+            Ok(left) => left.len(),
+            Err(_) => 0,
+        },
+        Err(_) => 0,
+    }
+}
+
+#[test]
+fn lists_fill_a_text(rt: HostRuntime) -> Result<(), Fail> {
+    let text = repeated(rt.alloc(), "{ int64_t a", ", a", 5460, " b")?;
+    assert_eq!(rt; left_count(rt.alloc(), text.as_bytes()), 16384);
     Ok(())
 }

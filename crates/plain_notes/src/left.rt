@@ -144,6 +144,7 @@ const ITEM_NOTE: &str =
 fn plain_note(near: &Spelled<'_>, value: bool) -> Option<&'static str> {
     by_word(&RESERVED, near.here())
         .or(by_mark(near, value))
+        .or(by_list(near))
         .or(by_place(near))
         .or(by_name(near))
 }
@@ -257,16 +258,20 @@ fn by_star(near: &Spelled<'_>) -> Option<&'static str> {
 const FOR_NOTE: &str = "each part of a `for` is one statement: keep the last, and write the others \
     before the loop, or at its end and before each `continue`";
 
+const FOR_DECLARES: &str =
+    "the first part of a `for` declares one name: declare the others before it";
+
 fn by_comma(near: &Spelled<'_>) -> Option<&'static str> {
+    let alone = near.declares_alone();
     if near.in_for() {
-        return Some(FOR_NOTE);
+        return Some(if alone { FOR_DECLARES } else { FOR_NOTE });
     }
+    let nameless = is_one(near.before(1), &["int64_t", "*"]);
     match near.within() {
-        Within::Body if is_one(near.first(), &["int64_t", "struct"]) => {
-            Some("one declaration declares one name: write one for each")
-        }
+        Within::Body | Within::Fields if nameless => Some("a name is missing before the `,`"),
+        Within::Body if alone => Some("put the declarations into `{ }`"),
         Within::Body => Some("there is no comma operator: write two statements"),
-        Within::Fields => Some("one declaration declares one field: write one for each"),
+        Within::Fields => Some(LENGTH_NOTE),
         Within::Parameters => Some("a parameter has a type and a name, as `int64_t n`"),
         Within::Top => Some(
             "there are no global variables but the root: write a field of its struct",
@@ -279,15 +284,15 @@ fn by_bracket(near: &Spelled<'_>) -> Option<&'static str> {
         Within::Body => Some(
             "there are no local arrays: write an array field of the root or of an object",
         ),
-        Within::Fields => Some(
-            "an array has one length: write `t[16]` and `t[4 * i + j]` for `t[4][4]`",
-        ),
+        Within::Fields => Some(LENGTH_NOTE),
         Within::Parameters => Some("an array is no parameter: pass a pointer to its object"),
         Within::Top => Some(
             "there are no global variables but the root: write a field of its struct",
         ),
     }
 }
+
+const LENGTH_NOTE: &str = "an array has one length: write `t[16]` and `t[4 * i + j]` for `t[4][4]`";
 
 /// The operators that stand after a value.
 const OPERATORS: [&str; 19] = [
@@ -477,6 +482,27 @@ fn in_body(near: &Spelled<'_>) -> Option<&'static str> {
         return Some(VALUE_NOTE);
     }
     None
+}
+
+/// What stands after a comma in place of another name of a declaration.
+fn by_list(near: &Spelled<'_>) -> Option<&'static str> {
+    if !is_listed(near) {
+        return None;
+    }
+    if is(near.here(), ";") {
+        return Some("a name is missing after the `,`");
+    }
+    if is_one(near.here(), &["int64_t", "struct"]) {
+        return Some("a declaration has its type once: leave it out after the `,`");
+    }
+    None
+}
+
+/// Whether the token stands after a comma of a declaration, and so after its type, put there again.
+fn is_listed(near: &Spelled<'_>) -> bool {
+    let number = is(near.before(1), "int64_t") && is(near.before(2), ",");
+    let pointer = is(near.before(2), "struct") && is(near.before(3), ",");
+    (number || pointer) && (near.within() == Within::Body || near.within() == Within::Fields)
 }
 
 /// A name of a type of numbers in C.

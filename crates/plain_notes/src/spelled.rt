@@ -107,6 +107,30 @@ impl<'a> Spelled<'a> {
         first
     }
 
+    /// Whether the token stands in a declaration that is no statement of a block: in the first part
+    /// of a `for`, or one that is a body.
+    pub(crate) fn declares_alone(&self) -> bool {
+        let mut back = 1u64;
+        for _ in 0..self.place {
+            let word = self.before(back);
+            if is_one(word, &[";", "{", "}"]) {
+                return false;
+            }
+            back = back.saturating_add(1);
+            if is_one(word, &["int64_t", "struct"]) && self.begins_alone(back) {
+                return true;
+            }
+        }
+        false
+    }
+
+    /// Whether the token that is n tokens before begins a body, or the brackets of a `for`.
+    fn begins_alone(&self, back: u64) -> bool {
+        let last = self.before(back);
+        is_one(last, &[")", "else", "do"])
+            || is(last, "(") && is(self.before(back.saturating_add(1)), "for")
+    }
+
     /// Whether the token stands in the brackets of a `for`.
     pub(crate) fn in_for(&self) -> bool {
         let mut open = 0u64;

@@ -85,7 +85,7 @@ pub record TellsPlace (path text message : List ℕ) : Type 0 where
   pub rest : List ℕ
   pub begins : message ≡ head_text path (place_of text start) what ++ rest
 
--- The message of a text that is too long, as it stands or with its constants replaced, has the path
+-- The message of a text that is too long, as it stands or by what is left of it, has the path
 -- alone; that of every other refused text has a place; an accepted text has no message.
 pub data Tells (path text : List ℕ) : Option (List ℕ) → Type 0 where
   Long : (message what : List ℕ) → answer text ≡ Err lex.TooLong → message ≡ file_head path what

@@ -152,9 +152,10 @@ fn by_constants(
     }
 }
 
-const MANY_LEFT: &str = "with its constants replaced the program has more than 16384 tokens";
+const MANY_LEFT: &str =
+    "with constants and lists of names written out the program has more than 16384 tokens";
 
-/// The message of a text whose constants leave too many tokens.
+/// The message of a text whose constants and declarations leave too many tokens.
 #[tactic(auto, using(crate::proofs::Refusals::long_left))]
 fn long_left(
     alloc: Global,

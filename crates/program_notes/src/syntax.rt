@@ -109,8 +109,9 @@ fn missing(
     }
 }
 
+/// The note of a comma that is missing between arguments or parameters.
 fn comma(alloc: Global, able: &[&str]) -> Result<Option<String>, AllocError> {
-    if able.contains(&",") {
+    if able.contains(&",") && able.contains(&")") {
         return some_text(alloc, "a `,` is missing here");
     }
     Ok(None)
