@@ -34,7 +34,9 @@ use Rattle.cnvm_cli.specs.declared.refused.Refused.{Refused}
 use Rattle.cnvm_cli.specs.declared.refused.Refused.TheVariants as refused
 use Rattle.session_run.specs.declared.status.Status.{Status}
 use Rattle.session_run.specs.declared.status.Status.TheVariants as status
+use Rattle.session_run.specs.declared.storm.StormOrder.{StormOrder}
 use Rattle.cnvm_cli.specs.RefusalText.{has_line}
+use Rattle.cnvm_cli.specs.StormMeant.{ordered}
 use Rattle.cnvm_cli.specs.Verdict.{refused_by, IsTextRefused, IsAccepted, Grammar, SpellsIn}
 use Rattle.cnvm_cli.specs.Verdict.{ProgramRefuses, ScriptRefuses, RefuseIn, asked_by}
 use Rattle.cnvm_cli.specs.Run.{RefusedAs}
@@ -228,14 +230,14 @@ opened_kept result program commands words w w' d d' k k' =
     (OpensAll program commands words w w' d d' k k')
     (OpensPart program commands words w w' d d' k k') result
 
-stormed_kept : (result : Status) (program : Program) (start count : ℕ) (w w' : Option (List ℕ))
+stormed_kept : (result : Status) (program : Program) (order : StormOrder) (w w' : Option (List ℕ))
     (d d' : Device) (k k' : ℕ)
-    → StormedAs program start count result w w' d d' k k' → IsRefusalStatus result → ⊥
-stormed_kept result program start count w w' d d' k k' =
+    → StormedAs program order result w w' d d' k k' → IsRefusalStatus result → ⊥
+stormed_kept result program order w w' d d' k k' =
     status_kept (λ why. Uncreated program why w w' d d' k k')
-    (StormedStarved program start count w w' d d' k k')
-    (StormedAll program start count w w' d d' k k')
-    (StormedPart program start count w w' d d' k k') result
+    (StormedStarved program order w w' d d' k k')
+    (StormedAll program order w w' d d' k k')
+    (StormedPart program order w w' d d' k k') result
 
 written_kept : (text : List ℕ) (result : Status) (w w' : Option (List ℕ))
     → WrittenAs text result w w' → IsRefusalStatus result → ⊥
@@ -335,14 +337,14 @@ code_kept p result w w' has ends refuses =
     told.2 refuses)
     (λ ran. written_kept _ result w w' ran.2 refuses) ends
 
-storm_kept : (asked : Asked) (start count : ℕ) (p : Option (List ℕ)) (result : Status)
+storm_kept : (asked : Asked) (order : StormOrder) (p : Option (List ℕ)) (result : Status)
     (w w' : Option (List ℕ)) (d d' : Device) (k k' : ℕ)
-    → HasProgram asked p → StormEnds asked start count p result w w' d d' k k'
+    → HasProgram asked p → StormEnds asked order p result w w' d d' k k'
     → IsRefusalStatus result → ⊥
-storm_kept asked start count p result w w' d d' k k' has ends refuses =
+storm_kept asked order p result w w' d d' k k' has ends refuses =
     ⊎_elim (λ told. quiet_kept told.0 result w w' (program_quiet asked p has told.0 told.1)
     told.2 refuses)
-    (λ ran. stormed_kept result ran.0.program start count w w' d d' k k' ran.2 refuses) ends
+    (λ ran. stormed_kept result ran.0.program order w w' d d' k k' ran.2 refuses) ends
 
 workers_ran_kept : (result : Status) (program : Program) (count : ℕ)
     (commands : List WorkersCommand) (w w' : Option (List ℕ)) (d d' : Device) (k k' : ℕ)
@@ -434,9 +436,9 @@ plan_kept (plan.ServePool p slots records ticks pool former) told result before 
     refuses = has
 plan_kept (plan.List p) told result before after has ends refuses =
     list_kept told.program result before.out after.out has ends.0 refuses
-plan_kept (plan.Storm p start count slots records ticks) told result before after has
+plan_kept (plan.Storm p start count reach slots records ticks) told result before after has
     ends refuses =
-    storm_kept (asked_by slots records ticks) start count told.program
+    storm_kept (asked_by slots records ticks) (ordered start count reach) told.program
     result before.out after.out before.dev
     after.dev before.steps after.steps has ends.0 refuses
 plan_kept (plan.Why p) told result before after has ends refuses =

@@ -22,6 +22,7 @@ use Rattle.cnvm_compile.specs.declared.asked.Asked.{Asked}
 use Rattle.cnvm_cli.specs.declared.refused.Refused.{Refused}
 use Rattle.cnvm_cli.specs.declared.refused.Refused.TheVariants as refused
 use Rattle.session_run.specs.declared.status.Status.{Status}
+use Rattle.session_run.specs.declared.storm.StormOrder.{StormOrder}
 use Rattle.session_run.specs.declared.status.Status.TheVariants as status
 use Rattle.cnvm_cli.specs.CodeEnds.{CodeEnds}
 use Rattle.cnvm_cli.specs.Emitted.{EmitEnds}
@@ -35,7 +36,7 @@ use Rattle.session_run.specs.Saved.{SavedAs}
 use Rattle.cnvm_cli.specs.Serve.{StatusOf, IsNeverGivenUp, MemoryMeantTo, ServeMeant}
 use Rattle.session_serve.specs.declared.serving.Served.{Served}
 use Rattle.session_serve.specs.declared.serving.Served.TheVariants as served
-use Rattle.cnvm_cli.specs.StormMeant.{StormMeant}
+use Rattle.cnvm_cli.specs.StormMeant.{ordered, StormMeant}
 use Rattle.cnvm_cli.specs.Verdict.{Grammar, ProgramRefuses, RefuseIn, asked_by}
 use Rattle.cnvm_cli.specs.WhyEnds.{WhyEnds}
 use Rattle.cnvm_cli.specs.WorkersMeant.{WorkersMeant}
@@ -180,12 +181,12 @@ code_never : (p w w' : Option (List ℕ)) → CodeEnds p status.DeviceFault w w'
 code_never p w w' (inl refuses) = program_never p refuses.0 w w' refuses.1 refuses.2
 code_never p w w' (inr written) = written.2
 
-storm_never : (asked : Asked) (first count : ℕ) (p w w' : Option (List ℕ)) (d d' : Device)
+storm_never : (asked : Asked) (order : StormOrder) (p w w' : Option (List ℕ)) (d d' : Device)
     (k k' : ℕ) → IsFaultless d
-    → StormMeant asked first count p status.DeviceFault w w' d d' k k' → ⊥
-storm_never asked first count p w w' d d' k k' none (inl refuses) =
+    → StormMeant asked order p status.DeviceFault w w' d d' k k' → ⊥
+storm_never asked order p w w' d d' k k' none (inl refuses) =
     program_never p refuses.0 w w' refuses.1 refuses.2
-storm_never asked first count p w w' d d' k k' none (inr meant) =
+storm_never asked order p w w' d d' k k' none (inr meant) =
     let uncreated = meant.2 in never_unmade _ _ d d' none uncreated.2
 
 workers_never : (asked : Asked) (count : ℕ) (p s w w' : Option (List ℕ)) (d d' : Device)
@@ -237,9 +238,9 @@ plan_never (plan.Serve p slots records ticks) told before after none meant =
 plan_never (plan.ServePool p slots records ticks pool former) told before after none meant = tt
 plan_never (plan.List p) told before after none meant =
     absurd (list_never told.program before.out after.out meant.0)
-plan_never (plan.Storm p first count slots records ticks) told before after none meant =
-    absurd (storm_never (asked_by slots records ticks) first count told.program before.out after.out
-    before.dev after.dev before.steps after.steps none meant.0)
+plan_never (plan.Storm p start count reach slots records ticks) told before after none meant =
+    absurd (storm_never (asked_by slots records ticks) (ordered start count reach) told.program
+    before.out after.out before.dev after.dev before.steps after.steps none meant.0)
 plan_never (plan.Why p) told before after none meant =
     absurd (why_never told.program before.out after.out meant.0)
 plan_never (plan.Workers p s workers slots records ticks) told before after none meant =

@@ -30,6 +30,7 @@ use Rattle.cnvm_compile.specs.Compilation.{IsCompiled}
 use Rattle.cnvm_cli.specs.declared.refused.Refused.TheVariants as refused
 use Rattle.session_run.specs.declared.status.Status.{Status}
 use Rattle.session_run.specs.declared.status.Status.TheVariants as status
+use Rattle.cnvm_cli.specs.StormMeant.{ordered}
 use Rattle.cnvm_cli.specs.Verdict.{HasCommands, TextsGive, asked_by}
 use Rattle.cnvm_cli.specs.Opened.{ImageGives}
 use Rattle.session_run.specs.Made.{Unopened}
@@ -279,9 +280,9 @@ plan_meant (plan.Serve p slots records ticks) told result before after ends =
     (memory_served (asked_by slots records ticks) told result before after ends.0, ends.1)
 plan_meant (plan.ServePool p slots records ticks pool former) told result before after ends = ends
 plan_meant (plan.List p) told result before after ends = ends
-plan_meant (plan.Storm p start count slots records ticks) told result before after ends = (
-  storm_meant (asked_by slots records ticks) start count told.program result before.out after.out
-      before.dev after.dev before.steps after.steps ends.0,
+plan_meant (plan.Storm p start count reach slots records ticks) told result before after ends = (
+  storm_meant (asked_by slots records ticks) (ordered start count reach) told.program result
+      before.out after.out before.dev after.dev before.steps after.steps ends.0,
   ends.1,
 )
 plan_meant (plan.Why p) told result before after ends = ends
@@ -318,7 +319,8 @@ memory_meant (Some (plan.ServePool p slots records ticks pool former)) told befo
     same = (same.0, same.1)
 memory_meant (Some (plan.List p)) told before after keeps same =
     (inl (refused.NoMemory, tt, (refl, keeps)), same)
-memory_meant (Some (plan.Storm p start count slots records ticks)) told before after keeps same =
+memory_meant (Some (plan.Storm p start count reach slots records ticks)) told before after keeps
+    same =
     (inl (refused.NoMemory, tt, (refl, keeps), same.1, same.2), same.0)
 memory_meant (Some (plan.Why p)) told before after keeps same =
     (inl (refused.NoMemory, tt, (refl, keeps)), same)

@@ -269,7 +269,8 @@ plan_on_file (plan.Serve p slots records ticks) told result before after ends = 
 plan_on_file (plan.ServePool p slots records ticks pool former) told result before after ends =
     file_served (asked_by slots records ticks) (is_some former) told result before after ends
 plan_on_file (plan.List p) told result before after ends = ends
-plan_on_file (plan.Storm p start count slots records ticks) told result before after ends = ends
+plan_on_file (plan.Storm p start count reach slots records ticks) told result before after ends =
+    ends
 plan_on_file (plan.Why p) told result before after ends = ends
 plan_on_file (plan.Workers p s workers slots records ticks) told result before after ends = ends
 plan_on_file (plan.WorkersPool p s workers slots records ticks pool) told result before after ends =
@@ -305,7 +306,7 @@ memory_of_plan (plan.Serve p slots records ticks) told before after keeps same =
 memory_of_plan (plan.ServePool p slots records ticks pool former) told before after keeps same =
     inl (refused.NoMemory, tt, (refl, keeps), same)
 memory_of_plan (plan.List p) told before after keeps same = (same.held, same.found)
-memory_of_plan (plan.Storm p start count slots records ticks) told before after keeps same =
+memory_of_plan (plan.Storm p start count reach slots records ticks) told before after keeps same =
     (same.held, same.found)
 memory_of_plan (plan.Why p) told before after keeps same = (same.held, same.found)
 memory_of_plan (plan.Workers p s workers slots records ticks) told before after keeps same =

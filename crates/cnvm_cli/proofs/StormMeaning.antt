@@ -34,6 +34,7 @@ use Rattle.cnvm_compile.specs.declared.asked.Asked.{Asked}
 use Rattle.cnvm_compile.specs.declared.compiling.Compiled.{Compiled}
 use Rattle.cnvm_compile.specs.Compilation.{IsCompiled}
 use Rattle.session_run.specs.declared.status.Status.{Status}
+use Rattle.session_run.specs.declared.storm.StormOrder.{StormOrder}
 use Rattle.session_run.specs.declared.storm.Tally.{Tally}
 use Rattle.session_run.specs.Stormed as stormed
 use Rattle.session_run.specs.Made.{Created, Uncreated}
@@ -63,23 +64,24 @@ argument_words x zero = none_words
 argument_words x (suc n) = words_more (pos (drawn x % 16)) (arguments (next_draw x) n)
     (argument_word (drawn x)) (argument_words (next_draw x) n)
 
-round_words : (x : ℕ) (cut : Bool) (name : List ℕ) (n : ℕ)
-    → AllByRecursion IsWordCommand (round x cut name n)
-round_words x false name n = (argument_words x n, tt)
-round_words x true name n = (tt, (argument_words x n, (tt, (tt, tt))))
+round_words : (reach x : ℕ) (cut : Bool) (name : List ℕ) (n : ℕ)
+    → AllByRecursion IsWordCommand (round reach x cut name n)
+round_words reach x false name n = (argument_words x n, tt)
+round_words reach x true name n = (tt, (argument_words x n, (tt, (tt, tt))))
 
-drawn_words : (x : ℕ) (cut : Bool) (found : Option FunctionTree)
-    → IfSome (option_map (λ (f : FunctionTree). round x cut f.name.text (length f.parameters))
+drawn_words : (reach x : ℕ) (cut : Bool) (found : Option FunctionTree)
+    → IfSome (option_map (λ (f : FunctionTree). round reach x cut f.name.text (length f.parameters))
     found)
     (AllByRecursion IsWordCommand)
-drawn_words x cut None = tt
-drawn_words x cut (Some f) = round_words x cut f.name.text (length f.parameters)
+drawn_words reach x cut None = tt
+drawn_words reach x cut (Some f) = round_words reach x cut f.name.text (length f.parameters)
 
-storm_words : (x : ℕ) (fs : List FunctionTree) (commands : List Command)
-    → Some commands ≡ storm_round x fs → AllByRecursion IsWordCommand commands
-storm_words x fs commands is =
+storm_words : (reach x : ℕ) (fs : List FunctionTree) (commands : List Command)
+    → Some commands ≡ storm_round reach x fs → AllByRecursion IsWordCommand commands
+storm_words reach x fs commands is =
     subst (λ (o : Option (List Command)). IfSome o (AllByRecursion IsWordCommand)) (sym is)
-    (drawn_words (next_draw (next_draw x)) (is_cut x) (slice_get fs (chosen x (length fs) - 1)))
+    (drawn_words reach (next_draw (next_draw x)) (is_cut x)
+    (slice_get fs (chosen x (length fs) - 1)))
 
 -- a chain has as many answers as commands, so chains are counted one after another
 tally_append :
@@ -150,19 +152,19 @@ module _ (program : Program) (agrees : Agrees program) where
         tally = rest.tally;
       }
 
-  all_rounds : (count g : ℕ) (t t' : Tally) (x : Moment) (m' : Mode) (d' : Device) (k' : ℕ) →
-      Known x → Rounds program g count t x.mode x.device x.steps t' m' d' k' →
-      (commands : List Command) × Drawn (transactions_of program.typed) g count commands
+  all_rounds : (reach count g : ℕ) (t t' : Tally) (x : Moment) (m' : Mode) (d' : Device) (k' : ℕ) →
+      Known x → Rounds program reach g count t x.mode x.device x.steps t' m' d' k' →
+      (commands : List Command) × Drawn (transactions_of program.typed) reach g count commands
       × Tallied program commands t t' x m' d' k'
-  all_rounds zero g t t' x m' d' k' holds r =
+  all_rounds reach zero g t t' x m' d' k' holds r =
       ([], refl, none_tallied program t t' x m' d' k' r.0 r.1 r.2 r.3)
-  all_rounds (suc count) g t t' x m' d' k' holds r =
-      let one = one_round r.0 (storm_words g (transactions_of program.typed) r.0 r.2) t r.4 x r.5
-      r.6 r.7 holds r.8 in
+  all_rounds reach (suc count) g t t' x m' d' k' holds r =
+      let one = one_round r.0 (storm_words reach g (transactions_of program.typed) r.0 r.2) t r.4 x
+      r.5 r.6 r.7 holds r.8 in
       let y : Moment = moment r.5 r.6 r.7 one.state one.history in
       let kept : Known y = chain_kept program (super_words program) r.0 one.answers x y holds
       one.ran in
-      let rest = all_rounds count r.1 r.4 t' y m' d' k' kept r.9 in
+      let rest = all_rounds reach count r.1 r.4 t' y m' d' k' kept r.9 in
       let others = rest.2 in
       let z : Moment = moment m' d' k' others.state others.history in (
         r.0 ++ rest.0,
@@ -182,14 +184,15 @@ module _ (program : Program) (agrees : Agrees program) where
       )
 
   rounds_of :
-      (fs : List FunctionTree) (count g : ℕ) (t t' : Tally) (x : Moment) (m' : Mode) (d' : Device)
-      (k' : ℕ) →
-      Known x → RoundsOf fs program g count t x.mode x.device x.steps t' m' d' k' →
-      (commands : List Command) × DrawnOf fs program g count commands
+      (fs : List FunctionTree) (reach count g : ℕ) (t t' : Tally) (x : Moment) (m' : Mode)
+      (d' : Device) (k' : ℕ) →
+      Known x → RoundsOf fs program reach g count t x.mode x.device x.steps t' m' d' k' →
+      (commands : List Command) × DrawnOf fs program reach g count commands
       × Tallied program commands t t' x m' d' k'
-  rounds_of [] count g t t' x m' d' k' holds r =
+  rounds_of [] reach count g t t' x m' d' k' holds r =
       ([], refl, none_tallied program t t' x m' d' k' r.0 r.1 r.2 r.3)
-  rounds_of (f ∷ fs) count g t t' x m' d' k' holds r = all_rounds count g t t' x m' d' k' holds r
+  rounds_of (f ∷ fs) reach count g t t' x m' d' k' holds r =
+      all_rounds reach count g t t' x m' d' k' holds r
 
   -- the answer of `last` after a moment
   last_step : (x : Moment) (a : Answer) (n : Mode) (d' : Device) (k' : ℕ) → Known x →
@@ -206,15 +209,16 @@ module _ (program : Program) (agrees : Agrees program) where
         refl,
       )
 
-  storm_all : (start count : ℕ) (d d' : Device) (w w' : Option (List ℕ)) (k k' : ℕ) →
-      StormedAll program start count w w' d d' k k' →
-      CountsMeant program start count w w' d d' k k'
-  storm_all start count d d' w w' k k' made =
+  storm_all : (order : StormOrder) (d d' : Device) (w w' : Option (List ℕ)) (k k' : ℕ) →
+      StormedAll program order w w' d d' k k' →
+      CountsMeant program order w w' d d' k k'
+  storm_all order d d' w w' k k' made =
       let b : Device = made.0 in
       let holds = created_rests program d b made.1 in
       let r = made.2 in
-      let all = rounds_of (transactions_of program.typed) count (min start (2 ^ 32 - 1)) no_tally
-      r.0 (fresh_moment program b k) r.1 r.2 r.3 holds r.4 in
+      let all = rounds_of (transactions_of program.typed) order.reach order.count
+      (min order.start (2 ^ 32 - 1)) no_tally r.0 (fresh_moment program b k) r.1 r.2 r.3 holds
+      r.4 in
       let tallied = all.2 in
       let x : Moment = moment r.1 r.2 r.3 tallied.state tallied.history in
       let kept = chain_kept program (super_words program) all.0 tallied.answers
@@ -269,15 +273,16 @@ module _ (program : Program) (agrees : Agrees program) where
         one.3,
       )
 
-  storm_part : (start count : ℕ) (d d' : Device) (w w' : Option (List ℕ)) (k k' : ℕ) →
-      StormedPart program start count w w' d d' k k' →
-      CountsPart program start count w w' d d' k k'
-  storm_part start count d d' w w' k k' made =
+  storm_part : (order : StormOrder) (d d' : Device) (w w' : Option (List ℕ)) (k k' : ℕ) →
+      StormedPart program order w w' d d' k k' →
+      CountsPart program order w w' d d' k k'
+  storm_part order d d' w w' k k' made =
       let b : Device = made.0 in
       let holds = created_rests program d b made.1 in
       let r = made.2 in
-      let all = rounds_of (transactions_of program.typed) count (min start (2 ^ 32 - 1)) no_tally
-      r.0 (fresh_moment program b k) r.1 r.2 r.3 holds r.4 in
+      let all = rounds_of (transactions_of program.typed) order.reach order.count
+      (min order.start (2 ^ 32 - 1)) no_tally r.0 (fresh_moment program b k) r.1 r.2 r.3 holds
+      r.4 in
       let tallied = all.2 in
       let x : Moment = moment r.1 r.2 r.3 tallied.state tallied.history in
       let kept = chain_kept program (super_words program) all.0 tallied.answers
@@ -299,15 +304,15 @@ module _ (program : Program) (agrees : Agrees program) where
       )
 
   -- there was no memory for all rounds, or not for all of the summary
-  storm_starved : (start count : ℕ) (d d' : Device) (w w' : Option (List ℕ)) (k k' : ℕ) (b : Device)
-      → Created program d b → StormStarves program start count Ready b w k d' w' k' →
-      CountsCut program start count w w' d d' k k'
-      ⊎ CountsPart program start count w w' d d' k k'
-  storm_starved start count d d' w w' k k' b made (inl cut) =
+  storm_starved : (order : StormOrder) (d d' : Device) (w w' : Option (List ℕ)) (k k' : ℕ)
+      (b : Device) → Created program d b → StormStarves program order Ready b w k d' w' k' →
+      CountsCut program order w w' d d' k k'
+      ⊎ CountsPart program order w w' d d' k k'
+  storm_starved order d d' w w' k k' b made (inl cut) =
       let holds = created_rests program d b made in
       let r = cut.1 in
-      let all = rounds_of (transactions_of program.typed) r.0 (min start (2 ^ 32 - 1)) no_tally
-      r.2 (fresh_moment program b k) r.3 d' k' holds r.4 in
+      let all = rounds_of (transactions_of program.typed) order.reach r.0
+      (min order.start (2 ^ 32 - 1)) no_tally r.2 (fresh_moment program b k) r.3 d' k' holds r.4 in
       let tallied = all.2 in
       inl (
         b,
@@ -328,30 +333,30 @@ module _ (program : Program) (agrees : Agrees program) where
           cut.0,
         ),
       )
-  storm_starved start count d d' w w' k k' b made (inr part) =
-      inr (storm_part start count d d' w w' k k' (b, made, part))
+  storm_starved order d d' w w' k k' b made (inr part) =
+      inr (storm_part order d d' w w' k k' (b, made, part))
 
   storm_meant_as :
-      (start count : ℕ) (result : Status) (w w' : Option (List ℕ)) (d d' : Device) (k k' : ℕ) →
-      StormedAs program start count result w w' d d' k k' →
-      StormMeantAs program start count result w w' d d' k k'
-  storm_meant_as start count result w w' d d' k k' r =
+      (order : StormOrder) (result : Status) (w w' : Option (List ℕ)) (d d' : Device) (k k' : ℕ) →
+      StormedAs program order result w w' d d' k k' →
+      StormMeantAs program order result w w' d d' k k'
+  storm_meant_as order result w w' d d' k k' r =
       status_map (λ why. Uncreated program why w w' d d' k k')
-      (λ starved. storm_starved start count d d' w w' k k' starved.0 starved.1 starved.2)
-      (storm_all start count d d' w w' k k') (storm_part start count d d' w w' k k') result r
+      (λ starved. storm_starved order d d' w w' k k' starved.0 starved.1 starved.2)
+      (storm_all order d d' w w' k k') (storm_part order d d' w w' k k') result r
 
 pub storm_meant :
-    (asked : Asked) (start count : ℕ) (told : Option (List ℕ)) (result : Status)
+    (asked : Asked) (order : StormOrder) (told : Option (List ℕ)) (result : Status)
     (w w' : Option (List ℕ)) (d d' : Device) (k k' : ℕ) →
-    StormEnds asked start count told result w w' d d' k k' →
-    StormMeant asked start count told result w w' d d' k k'
-storm_meant asked start count told result w w' d d' k k' (inl refused) =
+    StormEnds asked order told result w w' d d' k k' →
+    StormMeant asked order told result w w' d d' k k'
+storm_meant asked order told result w w' d d' k k' (inl refused) =
     inl (refused.0, refused.1, refused.2, refused.3, refused.4)
-storm_meant asked start count told result w w' d d' k k' (inr ran) =
+storm_meant asked order told result w w' d d' k k' (inr ran) =
     let compiled : Compiled = ran.0 in
     let from = known_bytes told (λ text. IsCompiled asked text compiled) ran.1 in
     inr (
       compiled,
       ran.1,
-      storm_meant_as compiled.program from.1.agrees start count result w w' d d' k k' ran.2,
+      storm_meant_as compiled.program from.1.agrees order result w w' d d' k k' ran.2,
     )

@@ -61,7 +61,7 @@ IsPlanServed (plan.Serve p slots records ticks) told =
     HasProgram (asked_by slots records ticks) told.program × HasLines told.script
 IsPlanServed (plan.ServePool p slots records ticks pool former) told = ⊥
 IsPlanServed (plan.List p) told = HasProgram listing_sizes told.program
-IsPlanServed (plan.Storm p start count slots records ticks) told =
+IsPlanServed (plan.Storm p start count reach slots records ticks) told =
     HasProgram (asked_by slots records ticks) told.program
 IsPlanServed (plan.Why p) told = HasProgram listing_sizes told.program
 IsPlanServed (plan.Workers p s workers slots records ticks) told =

@@ -34,7 +34,7 @@ use Rattle.cnvm_cli.specs.Run.{RefusedAs}
 use Rattle.session_run.specs.Made.{Created, Uncreated, Unopened}
 use Rattle.session_run.specs.Saved.{SavedAs}
 use Rattle.cnvm_cli.specs.Serve.{ServeMeant}
-use Rattle.cnvm_cli.specs.StormMeant.{StormMeant}
+use Rattle.cnvm_cli.specs.StormMeant.{ordered, StormMeant}
 use Rattle.cnvm_cli.specs.Verdict.{asked_by, TextsGive, TextsRefuse}
 use Rattle.cnvm_cli.specs.WhyEnds.{WhyEnds}
 use Rattle.cnvm_cli.specs.WorkersMeant.{WorkersMeant}
@@ -184,8 +184,8 @@ PlanMeant (plan.ServePool p slots records ticks pool former) told result before 
     Keeps before.image after.image × (after.dev ≡ before.dev)
 PlanMeant (plan.List p) told result before after =
     ListEnds told.program result before.out after.out × IsUntouched before after
-PlanMeant (plan.Storm p start count slots records ticks) told result before after =
-    StormMeant (asked_by slots records ticks) start count told.program result
+PlanMeant (plan.Storm p start count reach slots records ticks) told result before after =
+    StormMeant (asked_by slots records ticks) (ordered start count reach) told.program result
     before.out after.out before.dev after.dev before.steps after.steps
     × Keeps before.image after.image
 PlanMeant (plan.Why p) told result before after =

@@ -14,7 +14,7 @@ IsRead (plan.Serve p slots records ticks) program script = IsAtEnd program × Is
 IsRead (plan.ServePool p slots records ticks pool former) program script =
     IsAtEnd program × IsAtEnd script
 IsRead (plan.List p) program script = IsAtEnd program
-IsRead (plan.Storm p start count slots records ticks) program script = IsAtEnd program
+IsRead (plan.Storm p start count reach slots records ticks) program script = IsAtEnd program
 IsRead (plan.Why p) program script = IsAtEnd program
 IsRead (plan.Workers p s workers slots records ticks) program script =
     IsAtEnd program × IsAtEnd script

@@ -24,6 +24,7 @@ use Rattle.cnvm_compile.specs.declared.compiling.Compiled.{Compiled}
 use Rattle.cnvm_compile.specs.Compilation.{IsCompiled}
 use Rattle.cnvm_cli.specs.declared.refused.Refused.{Refused}
 use Rattle.session_run.specs.declared.status.Status.{Status}
+use Rattle.session_run.specs.declared.storm.StormOrder.{StormOrder}
 use Rattle.session_run.specs.declared.storm.Tally.{Tally}
 use Rattle.session_run.specs.AsStatus.{AsStatus}
 use Rattle.cnvm_cli.specs.Verdict.{OfBytes, ProgramRefuses}
@@ -31,23 +32,29 @@ use Rattle.cnvm_cli.specs.Run.{RefusedAs}
 use Rattle.session_run.specs.Made.{Created, Uncreated}
 use Rattle.session_run.specs.Stormed.{counted, no_tally, tally_text}
 
+abbrev pub ordered : (start count reach : ℕ) → StormOrder
+ordered start count reach = record { start = start; count = count; reach = reach }
+
 -- the commands of `count` rounds of the generator, from the number x on
-abbrev pub Drawn : List FunctionTree → ℕ → (count : ℕ) → List Command → Type 0
-Drawn fs x zero commands = commands ≡ []
-Drawn fs x (suc count) commands =
-    (round : List Command) × (others : List Command) × (y : ℕ) × (Some round ≡ storm_round x fs)
-    × (Some y ≡ storm_after x fs)
-    × (commands ≡ round ++ others) × Drawn fs y count others
+abbrev pub Drawn : List FunctionTree → (reach : ℕ) → ℕ → (count : ℕ) → List Command → Type 0
+Drawn fs reach x zero commands = commands ≡ []
+Drawn fs reach x (suc count) commands =
+    (round : List Command) × (others : List Command) × (y : ℕ)
+    × (Some round ≡ storm_round reach x fs) × (Some y ≡ storm_after x fs)
+    × (commands ≡ round ++ others) × Drawn fs reach y count others
 
 -- for a program without a transaction nothing is drawn
-abbrev pub DrawnOf : List FunctionTree → Program → ℕ → (count : ℕ) → List Command → Type 0
-DrawnOf [] program x count commands = commands ≡ []
-DrawnOf (f ∷ fs) program x count commands = Drawn (transactions_of program.typed) x count commands
+abbrev pub DrawnOf : List FunctionTree → Program → (reach : ℕ) → ℕ → (count : ℕ) → List Command
+    → Type 0
+DrawnOf [] program reach x count commands = commands ≡ []
+DrawnOf (f ∷ fs) program reach x count commands =
+    Drawn (transactions_of program.typed) reach x count commands
 
 -- all commands of a storm
-abbrev pub AreDrawn : Program → (start count : ℕ) → List Command → Type 0
-AreDrawn program start count commands =
-    DrawnOf (transactions_of program.typed) program (min start (2 ^ 32 - 1)) count commands
+abbrev pub AreDrawn : Program → StormOrder → List Command → Type 0
+AreDrawn program order commands =
+    DrawnOf (transactions_of program.typed) program order.reach (min order.start (2 ^ 32 - 1))
+    order.count commands
 
 -- each answer is counted
 abbrev pub tally_of : List Command → List Answer → Tally → Tally
@@ -56,10 +63,10 @@ tally_of (c ∷ commands) [] t = t
 tally_of (c ∷ commands) (a ∷ answers) t = tally_of commands answers (counted c a t)
 
 -- a chain of steps over all commands of a storm
-pub record Storms (program : Program) (start count : ℕ) (x : Moment) :
+pub record Storms (program : Program) (order : StormOrder) (x : Moment) :
     Type 0 where
   pub commands : List Command
-  pub drawn : AreDrawn program start count commands
+  pub drawn : AreDrawn program order commands
   pub answers : List Answer
   pub last : Moment
   pub ran : Ran program (super_words program) commands answers x last
@@ -84,49 +91,49 @@ SummaryPart program t x w w' d' k' =
 
 -- A new pool is made, and holds the empty pool; then the storm is run on it, and this much of its
 -- summary is written.
-abbrev pub CountsMeant : Program → (start count : ℕ) → Option (List ℕ) → Option (List ℕ) →
+abbrev pub CountsMeant : Program → StormOrder → Option (List ℕ) → Option (List ℕ) →
     Device → Device → (k k' : ℕ) → Type 0
-CountsMeant program start count w w' d d' k k' =
+CountsMeant program order w w' d d' k k' =
     (b : Device) × Created program d b
     × Holds program (super_words program) Ready b (created program)
-    × ((storm : Storms program start count (fresh_moment program b k))
+    × ((storm : Storms program order (fresh_moment program b k))
     × SummaryMeant program (tally_of storm.commands storm.answers no_tally) storm.last
     w w' d' k')
 
-abbrev pub CountsPart : Program → (start count : ℕ) → Option (List ℕ) → Option (List ℕ) →
+abbrev pub CountsPart : Program → StormOrder → Option (List ℕ) → Option (List ℕ) →
     Device → Device → (k k' : ℕ) → Type 0
-CountsPart program start count w w' d d' k k' =
+CountsPart program order w w' d d' k k' =
     (b : Device) × Created program d b
     × Holds program (super_words program) Ready b (created program)
-    × ((storm : Storms program start count (fresh_moment program b k))
+    × ((storm : Storms program order (fresh_moment program b k))
     × SummaryPart program (tally_of storm.commands storm.answers no_tally) storm.last
     w w' d' k')
 
 -- There was no memory for the commands of a round: fewer rounds are run, and nothing is written.
-abbrev pub CountsCut : Program → (start count : ℕ) → Option (List ℕ) → Option (List ℕ) →
+abbrev pub CountsCut : Program → StormOrder → Option (List ℕ) → Option (List ℕ) →
     Device → Device → (k k' : ℕ) → Type 0
-CountsCut program start count w w' d d' k k' =
+CountsCut program order w w' d d' k k' =
     (b : Device) × Created program d b
     × Holds program (super_words program) Ready b (created program)
-    × (fewer : ℕ) × (fewer < count)
-    × ((storm : Storms program start fewer (fresh_moment program b k))
+    × (fewer : ℕ) × (fewer < order.count)
+    × ((storm : Storms program (record order { count = fewer }) (fresh_moment program b k))
     × (storm.last.device ≡ d') × (storm.last.steps ≡ k') × Keeps w w')
 
 -- what a storm on a new pool means, by its status
-abbrev pub StormMeantAs : Program → (start count : ℕ) → Status → Option (List ℕ) →
+abbrev pub StormMeantAs : Program → StormOrder → Status → Option (List ℕ) →
     Option (List ℕ) → Device → Device → (k k' : ℕ) → Type 0
-StormMeantAs program start count result w w' d d' k k' =
+StormMeantAs program order result w w' d d' k k' =
     AsStatus (λ why. Uncreated program why w w' d d' k k')
-    (CountsCut program start count w w' d d' k k'
-    ⊎ CountsPart program start count w w' d d' k k')
-    (CountsMeant program start count w w' d d' k k')
-    (CountsPart program start count w w' d d' k k') result
+    (CountsCut program order w w' d d' k k'
+    ⊎ CountsPart program order w w' d d' k k')
+    (CountsMeant program order w w' d d' k k')
+    (CountsPart program order w w' d d' k k') result
 
 -- What a storm means: the program is refused, this is reported, and nothing is run; or the storm
 -- means what the source of the compiled program says.
-abbrev pub StormMeant : Asked → (start count : ℕ) → (program : Option (List ℕ)) → Status →
+abbrev pub StormMeant : Asked → StormOrder → (program : Option (List ℕ)) → Status →
     Option (List ℕ) → Option (List ℕ) → Device → Device → (k k' : ℕ) → Type 0
-StormMeant asked start count told result w w' d d' k k' =
+StormMeant asked order told result w w' d d' k k' =
     ((why : Refused) × ProgramRefuses told why × RefusedAs why result w w' × (d' ≡ d) × (k' ≡ k))
     ⊎ ((compiled : Compiled) × OfBytes told (λ text. IsCompiled asked text compiled)
-    × StormMeantAs compiled.program start count result w w' d d' k k')
+    × StormMeantAs compiled.program order result w w' d d' k k')

@@ -4,8 +4,8 @@ ghost use Rattle.std.specs.Prelude.{◌≡◌, ◌<◌, ◌≤◌, ◌+◌, ◌*
 ghost use Rattle.std.specs.Prelude.{OnOk, OnErr, Some, length};
 ghost use Rattle.c_types.specs.Shapes.{transactions_of};
 ghost use Rattle.cnvm_script.specs.Storm.{next_draw, drawn, after_draws, is_cut, chosen, arguments};
-ghost use Rattle.cnvm_script.specs.Storm.{power, cut_round, round, after_round, storm_round};
-ghost use Rattle.cnvm_script.specs.Storm.{storm_after};
+ghost use Rattle.cnvm_script.specs.Storm.{cut_at, power, cut_round, round, after_round};
+ghost use Rattle.cnvm_script.specs.Storm.{storm_round, storm_after};
 ghost use Rattle.cnvm_script.specs.declared.command.Command.TheVariants.{Call};
 
 use crate::command::{Command, Script};
@@ -46,34 +46,36 @@ impl Storm {
         Storm { state: start }
     }
 
-    /// The commands of the next round, over the transactions of the program. Where memory lacks,
-    /// the generator stands where it stood.
-    pub fn round(&mut self, alloc: Global, typed: &Typed) -> Result<Script, AllocError>
-        requires { 0 < length (transactions_of typed.now) }
+    /// The commands of the next round, over the transactions of the program; its cut comes after
+    /// fewer events than `reach`. Where memory lacks, the generator stands where it stood.
+    pub fn round(&mut self, alloc: Global, typed: &Typed, reach: u64) -> Result<Script, AllocError>
+        requires some { 0 < length (transactions_of typed.now) }
+        requires reach { 1 ≤ reach }
         ensures commands { IfOk result (λ script.
-            Some script ≡ storm_round self.old (transactions_of typed.now)) }
+            Some script ≡ storm_round reach self.old (transactions_of typed.now)) }
         ensures state { OnOk result (Some self.new ≡ storm_after self.old
             (transactions_of typed.now)) }
         ensures err { OnErr result (self.new ≡ self.old) }
     {
         let mut next = Storm { state: self.state };
-        let script = next.draw_round(alloc, typed)?;
+        let script = next.draw_round(alloc, typed, reach)?;
         self.state = next.state;
         Ok(script)
     }
 
     /// The same. After an error some of the round's draws are made.
-    fn draw_round(&mut self, alloc: Global, typed: &Typed) -> Result<Script, AllocError>
-        requires { 0 < length (transactions_of typed.now) }
+    fn draw_round(&mut self, alloc: Global, typed: &Typed, reach: u64) -> Result<Script, AllocError>
+        requires some { 0 < length (transactions_of typed.now) }
+        requires reach { 1 ≤ reach }
         ensures commands { IfOk result (λ script.
-            Some script ≡ storm_round self.old (transactions_of typed.now)) }
+            Some script ≡ storm_round reach self.old (transactions_of typed.now)) }
         ensures state { OnOk result (Some self.new ≡ storm_after self.old
             (transactions_of typed.now)) }
     {
         let chosen = self.choose(typed.txs());
         let name = typed.tx_name(chosen.transaction);
         let parameters = typed.parameters(chosen.transaction);
-        self.round_of(alloc, chosen.cut, name, parameters)
+        self.round_of(alloc, chosen.cut, name, parameters, reach)
     }
 
     /// The choice of a round, among the transactions.
@@ -98,13 +100,16 @@ impl Storm {
         cut: bool,
         name: &str,
         parameters: u64,
+        reach: u64,
     ) -> Result<Script, AllocError>
-        ensures commands { IfOk result (λ script. script ≡ round self.old cut name.now parameters) }
+        requires { 1 ≤ reach }
+        ensures commands { IfOk result (λ script.
+            script ≡ round reach self.old cut name.now parameters) }
         ensures state { OnOk result (self.new ≡ after_round self.old cut parameters) }
     {
         let call = self.call(alloc, name, parameters)?;
         if cut {
-            return self.cut_round(alloc, call);
+            return self.cut_round(alloc, call, reach);
         }
         let mut script = Script::new(alloc);
         script.push(call)?;
@@ -151,16 +156,30 @@ impl Storm {
         Ok(())
     }
 
-    fn cut_round(&mut self, alloc: Global, call: Command) -> Result<Script, AllocError>
-        ensures commands { IfOk result (λ script. script ≡ cut_round self.old call) }
+    fn cut_round(&mut self, alloc: Global, call: Command, reach: u64) -> Result<Script, AllocError>
+        requires { 1 ≤ reach }
+        ensures commands { IfOk result (λ script. script ≡ cut_round reach self.old call) }
         ensures state { OnOk result (self.new ≡ next_draw (next_draw self.old)) }
     {
         let mut script = Script::new(alloc);
-        script.push(Command::Stop(self.draw() % 32))?;
+        script.push(Command::Stop(self.cut_at(reach)))?;
         script.push(call)?;
         script.push(Command::Stop(4_294_967_295))?;
         script.push(self.power(alloc))?;
         Ok(script)
+    }
+
+    /// After how many events the power goes off. A draw tells a number below 32,768 alone.
+    fn cut_at(&mut self, reach: u64) -> u64
+        requires { 1 ≤ reach }
+        ensures value { result ≡ cut_at reach self.old }
+        ensures state { self.new ≡ next_draw self.old }
+    {
+        let drawn = self.draw();
+        if reach <= 32_768 {
+            return drawn % reach;
+        }
+        self.state as u64 / 1_024 % reach
     }
 
     fn power(&mut self, alloc: Global) -> Command

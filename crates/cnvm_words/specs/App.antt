@@ -43,9 +43,11 @@ abbrev pub storm_app : App
 storm_app =
     sized
     (with_rule
+    (with_rule
     (with_rule (with_rule (new_app (codes "storm")) (place_rule (codes "program")))
     (place_rule (codes "start")))
     (place_rule (codes "count")))
+    (option_rule (codes "reach")))
 
 abbrev pub why_app : App
 why_app = with_rule (new_app (codes "why")) (place_rule (codes "program"))

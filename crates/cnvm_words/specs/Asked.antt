@@ -60,9 +60,10 @@ list_plan rows = option_map (λ program. Listing program) (first_of (codes "prog
 abbrev pub storm_plan : List Row → Option Plan
 storm_plan rows =
     option_and_then (λ program. option_and_then
-    (λ start. option_and_then (λ count. option_map (λ pool.
-    Storm program start count pool.0 pool.1 pool.2)
+    (λ start. option_and_then (λ count. option_and_then (λ reach. option_map (λ pool.
+    Storm program start count reach pool.0 pool.1 pool.2)
     (asked_pool rows))
+    (number_or 32 1 1000000 (first_of (codes "reach") rows)))
     (option_and_then (number_between 0 20000) (first_of (codes "count") rows)))
     (option_and_then (number_between 0 2147483647) (first_of (codes "start") rows)))
     (first_of (codes "program") rows)
@@ -138,9 +139,10 @@ plan_of words =
     if is_empty (fault_of cnvm_app words) then option_and_then (λ p. subcommand_plan p.0 p.1)
     (subcommand_of cnvm_app words) else None
 
--- a plan of workers has from 1 to 8
-abbrev pub HasWorkers : Plan → Type 0
-HasWorkers (Workers program script workers slots records ticks) = (1 ≤ workers) × (workers ≤ 8)
-HasWorkers (WorkersPool program script workers slots records ticks pool) =
+-- a plan of workers has from 1 to 8, and one of a storm reaches 1 event at least
+abbrev pub HasLimits : Plan → Type 0
+HasLimits (Workers program script workers slots records ticks) = (1 ≤ workers) × (workers ≤ 8)
+HasLimits (WorkersPool program script workers slots records ticks pool) =
     (1 ≤ workers) × (workers ≤ 8)
-HasWorkers _ = Unit {0}
+HasLimits (Storm program start count reach slots records ticks) = 1 ≤ reach
+HasLimits _ = Unit {0}

@@ -102,6 +102,7 @@ fn storm_command<'a>(alloc: Global) -> Result<Command<'a>, AllocError>
     let command = Command::new(alloc, "storm").arg(place_arg(alloc, "program"))?;
     let command = command.arg(place_arg(alloc, "start"))?;
     let command = command.arg(place_arg(alloc, "count"))?;
+    let command = command.arg(option_arg(alloc, "reach"))?;
     with_sizes(alloc, command)
 }
 

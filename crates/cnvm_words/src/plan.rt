@@ -48,11 +48,13 @@ pub enum Plan {
     List {
         program_path: Text,
     },
-    /// Runs a generated script. `start` is at most 2,147,483,647 and `count` at most 20,000.
+    /// Runs a generated script. `start` is at most 2,147,483,647, `count` at most 20,000, and
+    /// `reach` from 1 to 1,000,000.
     Storm {
         program_path: Text,
         start: u64,
         count: u64,
+        reach: u64,
         slots: u64,
         records: u64,
         ticks: u64,

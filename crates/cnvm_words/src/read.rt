@@ -12,7 +12,7 @@ ghost use Rattle.cnvm_words.specs.Asked.{in_limits, number_between, number_or, a
 ghost use Rattle.cnvm_words.specs.Asked.{run_plan, list_plan, storm_plan, why_plan, workers_plan};
 ghost use Rattle.cnvm_words.specs.Asked.{is_set, serve_plan, emit_plan, code_plan, subcommand_plan};
 ghost use Rattle.cnvm_words.specs.Asked.{plan_of};
-ghost use Rattle.cnvm_words.specs.Asked.{HasWorkers};
+ghost use Rattle.cnvm_words.specs.Asked.{HasLimits};
 ghost use Rattle.cnvm_words.specs.Prefix.{asked_prefix};
 
 use crate::command::cnvm_command;
@@ -111,7 +111,7 @@ fn pool_of(matches: &ArgMatches<'_>) -> Option<(u64, u64, u64)>
 
 fn run_plan(alloc: Global, matches: &ArgMatches<'_>) -> Result<Plan, WordsFault>
     ensures ok { IfOk result (λ p. run_plan (rows_of (found_of matches.now)) ≡ Some p) }
-    ensures few { IfOk result (λ p. HasWorkers p) }
+    ensures few { IfOk result (λ p. HasLimits p) }
     ensures usage { result ≡ Err WordsFault.Usage
         → run_plan (rows_of (found_of matches.now)) ≡ None }
 {
@@ -153,7 +153,7 @@ fn run_plan(alloc: Global, matches: &ArgMatches<'_>) -> Result<Plan, WordsFault>
 
 fn list_plan(alloc: Global, matches: &ArgMatches<'_>) -> Result<Plan, WordsFault>
     ensures ok { IfOk result (λ p. list_plan (rows_of (found_of matches.now)) ≡ Some p) }
-    ensures few { IfOk result (λ p. HasWorkers p) }
+    ensures few { IfOk result (λ p. HasLimits p) }
     ensures usage { result ≡ Err WordsFault.Usage
         → list_plan (rows_of (found_of matches.now)) ≡ None }
 {
@@ -162,9 +162,18 @@ fn list_plan(alloc: Global, matches: &ArgMatches<'_>) -> Result<Plan, WordsFault
     })
 }
 
+/// Below how many events a storm cuts.
+fn reach_of(matches: &ArgMatches<'_>) -> Option<u64>
+    ensures value { result ≡ number_or 32 1 1000000
+        (first_of (codes "reach") (rows_of (found_of matches.now))) }
+    ensures within { IfSome result (λ n. 1 ≤ n) }
+{
+    number_or(matches, "reach", 32, 1, 1_000_000)
+}
+
 fn storm_plan(alloc: Global, matches: &ArgMatches<'_>) -> Result<Plan, WordsFault>
     ensures ok { IfOk result (λ p. storm_plan (rows_of (found_of matches.now)) ≡ Some p) }
-    ensures few { IfOk result (λ p. HasWorkers p) }
+    ensures few { IfOk result (λ p. HasLimits p) }
     ensures usage { result ≡ Err WordsFault.Usage
         → storm_plan (rows_of (found_of matches.now)) ≡ None }
 {
@@ -175,6 +184,9 @@ fn storm_plan(alloc: Global, matches: &ArgMatches<'_>) -> Result<Plan, WordsFaul
     let Some(count) = number_at(matches, "count", 0, 20_000) else {
         return Err(WordsFault::Usage);
     };
+    let Some(reach) = reach_of(matches) else {
+        return Err(WordsFault::Usage);
+    };
     let Some((slots, records, ticks)) = pool_of(matches) else {
         return Err(WordsFault::Usage);
     };
@@ -182,6 +194,7 @@ fn storm_plan(alloc: Global, matches: &ArgMatches<'_>) -> Result<Plan, WordsFaul
         program_path,
         start,
         count,
+        reach,
         slots,
         records,
         ticks,
@@ -190,7 +203,7 @@ fn storm_plan(alloc: Global, matches: &ArgMatches<'_>) -> Result<Plan, WordsFaul
 
 fn why_plan(alloc: Global, matches: &ArgMatches<'_>) -> Result<Plan, WordsFault>
     ensures ok { IfOk result (λ p. why_plan (rows_of (found_of matches.now)) ≡ Some p) }
-    ensures few { IfOk result (λ p. HasWorkers p) }
+    ensures few { IfOk result (λ p. HasLimits p) }
     ensures usage { result ≡ Err WordsFault.Usage
         → why_plan (rows_of (found_of matches.now)) ≡ None }
 {
@@ -210,7 +223,7 @@ fn workers_of(matches: &ArgMatches<'_>) -> Option<u64>
 
 fn workers_plan(alloc: Global, matches: &ArgMatches<'_>) -> Result<Plan, WordsFault>
     ensures ok { IfOk result (λ p. workers_plan (rows_of (found_of matches.now)) ≡ Some p) }
-    ensures few { IfOk result (λ p. HasWorkers p) }
+    ensures few { IfOk result (λ p. HasLimits p) }
     ensures usage { result ≡ Err WordsFault.Usage
         → workers_plan (rows_of (found_of matches.now)) ≡ None }
 {
@@ -245,7 +258,7 @@ fn workers_plan(alloc: Global, matches: &ArgMatches<'_>) -> Result<Plan, WordsFa
 
 fn serve_plan(alloc: Global, matches: &ArgMatches<'_>) -> Result<Plan, WordsFault>
     ensures ok { IfOk result (λ p. serve_plan (rows_of (found_of matches.now)) ≡ Some p) }
-    ensures few { IfOk result (λ p. HasWorkers p) }
+    ensures few { IfOk result (λ p. HasLimits p) }
     ensures usage { result ≡ Err WordsFault.Usage
         → serve_plan (rows_of (found_of matches.now)) ≡ None }
 {
@@ -301,7 +314,7 @@ fn prefix_at(alloc: Global, matches: &ArgMatches<'_>, path: &str) -> Result<Text
 
 fn emit_plan(alloc: Global, matches: &ArgMatches<'_>) -> Result<Plan, WordsFault>
     ensures ok { IfOk result (λ p. emit_plan (rows_of (found_of matches.now)) ≡ Some p) }
-    ensures few { IfOk result (λ p. HasWorkers p) }
+    ensures few { IfOk result (λ p. HasLimits p) }
     ensures usage { result ≡ Err WordsFault.Usage
         → emit_plan (rows_of (found_of matches.now)) ≡ None }
 {
@@ -322,7 +335,7 @@ fn emit_plan(alloc: Global, matches: &ArgMatches<'_>) -> Result<Plan, WordsFault
 
 fn code_plan(alloc: Global, matches: &ArgMatches<'_>) -> Result<Plan, WordsFault>
     ensures ok { IfOk result (λ p. code_plan (rows_of (found_of matches.now)) ≡ Some p) }
-    ensures few { IfOk result (λ p. HasWorkers p) }
+    ensures few { IfOk result (λ p. HasLimits p) }
     ensures usage { result ≡ Err WordsFault.Usage
         → code_plan (rows_of (found_of matches.now)) ≡ None }
 {
@@ -335,7 +348,7 @@ fn code_plan(alloc: Global, matches: &ArgMatches<'_>) -> Result<Plan, WordsFault
 fn planned(alloc: Global, name: &str, matches: &ArgMatches<'_>) -> Result<Plan, WordsFault>
     ensures ok { IfOk result (λ p. subcommand_plan name.now (rows_of (found_of matches.now))
         ≡ Some p) }
-    ensures few { IfOk result (λ p. HasWorkers p) }
+    ensures few { IfOk result (λ p. HasLimits p) }
     ensures usage { result ≡ Err WordsFault.Usage
         → subcommand_plan name.now (rows_of (found_of matches.now)) ≡ None }
 {
@@ -391,7 +404,7 @@ fn matches_of<'a>(alloc: Global, words: &'a [String]) -> Result<ArgMatches<'a>, 
 /// numbers outside their limits, are `Usage`.
 pub fn plan_of(alloc: Global, words: &[String]) -> Result<Plan, WordsFault>
     ensures ok { IfOk result (λ p. plan_of (map string_bytes words.entry.now) ≡ Some p) }
-    ensures few { IfOk result (λ p. HasWorkers p) }
+    ensures few { IfOk result (λ p. HasLimits p) }
     ensures usage { result ≡ Err WordsFault.Usage
         → plan_of (map string_bytes words.entry.now) ≡ None }
 {

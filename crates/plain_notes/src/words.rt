@@ -49,6 +49,13 @@ const COUNT: Number = Number {
     limits: "from 0 to 20000",
 };
 
+const REACH: Number = Number {
+    name: "--reach",
+    least: 1,
+    most: 1_000_000,
+    limits: "from 1 to 1000000",
+};
+
 const WORKER_COUNT: Number = Number {
     name: "--workers",
     least: 1,
@@ -57,7 +64,7 @@ const WORKER_COUNT: Number = Number {
 };
 
 /// The numbers by their words.
-const NUMBERS: [Number; 6] = [SLOTS, LOG, TICKS, WORKER_COUNT, START, COUNT];
+const NUMBERS: [Number; 7] = [SLOTS, LOG, TICKS, WORKER_COUNT, START, COUNT, REACH];
 
 /// How the runtime's own names begin, up to a `_`.
 const OWN_HEADS: [&[u8]; 4] = [b"cn", b"cnvm", b"CN", b"CNVM"];
@@ -90,7 +97,7 @@ const LIST: Shape = Shape {
 const STORM: Shape = Shape {
     name: "storm",
     places: &["PROGRAM", "START", "COUNT"],
-    options: &[b"--slots", b"--log", b"--ticks"],
+    options: &[b"--reach", b"--slots", b"--log", b"--ticks"],
 };
 
 const WHY: Shape = Shape {
@@ -131,7 +138,7 @@ const COMMANDS: [&[u8]; 8] = [
 ];
 
 /// The commands and the options with their defaults.
-const HELP: [&str; 27] = [
+const HELP: [&str; 28] = [
     "cnvm run PROGRAM SCRIPT          runs the script's calls on a new pool",
     "    SCRIPT                       a file, or - for standard input",
     "    --open IMAGE                 runs them on the pool of a saved image",
@@ -142,6 +149,7 @@ const HELP: [&str; 27] = [
     "cnvm storm PROGRAM START COUNT   runs rounds of drawn calls and power cuts",
     "    START                        chooses them, from 0 to 2147483647",
     "    COUNT                        how many, from 0 to 20000",
+    "    --reach E                    cuts below E events, from 1 to 1000000; without it 32",
     "cnvm why PROGRAM                 tells why each logged store is logged",
     "cnvm workers PROGRAM SCRIPT      runs the script's calls of several workers",
     "    --workers W                  how many, from 1 to 8; without it 2",

@@ -8,18 +8,19 @@ use Rattle.cnvm_script.specs.declared.command.Command.{Command}
 use Rattle.cnvm_script.specs.Storm.{storm_round, storm_after}
 use Rattle.cnvm_session.specs.declared.mode.Mode.{Mode}
 use Rattle.cnvm_session.specs.declared.program.Program.{Program}
+use Rattle.session_run.specs.declared.storm.StormOrder.{StormOrder}
 use Rattle.session_run.specs.declared.storm.Tally.{Tally}
 use Rattle.session_run.specs.Storms.{CountsAnswers, Rounds, RoundsPart, RoundsOf, RagesPart}
 
 -- one round, followed by the rest
-pub rounds_more : (p : Program) (x y n less : ℕ) (cs : List Command) (t t1 t' : Tally)
+pub rounds_more : (p : Program) (reach x y n less : ℕ) (cs : List Command) (t t1 t' : Tally)
     (m m1 m' : Mode) (d d1 d' : Device) (k k1 k' : ℕ)
-    → n ≡ suc less → Some cs ≡ storm_round x (transactions_of p.typed)
+    → n ≡ suc less → Some cs ≡ storm_round reach x (transactions_of p.typed)
     → Some y ≡ storm_after x (transactions_of p.typed)
-    → CountsAnswers p cs t m d k t1 m1 d1 k1 → Rounds p y less t1 m1 d1 k1 t' m' d' k'
-    → Rounds p x n t m d k t' m' d' k'
-rounds_more p x y n less cs t t1 t' m m1 m' d d1 d' k k1 k' is commands next one rest =
-    subst (λ (i : ℕ). Rounds p x i t m d k t' m' d' k') (sym is) (
+    → CountsAnswers p cs t m d k t1 m1 d1 k1 → Rounds p reach y less t1 m1 d1 k1 t' m' d' k'
+    → Rounds p reach x n t m d k t' m' d' k'
+rounds_more p reach x y n less cs t t1 t' m m1 m' d d1 d' k k1 k' is commands next one rest =
+    subst (λ (i : ℕ). Rounds p reach x i t m d k t' m' d' k') (sym is) (
       cs,
       y,
       commands,
@@ -33,14 +34,14 @@ rounds_more p x y n less cs t t1 t' m m1 m' d d1 d' k k1 k' is commands next one
     )
 
 -- one round, followed by fewer than the rest
-pub rounds_part_more : (p : Program) (x y n less : ℕ) (cs : List Command) (t t1 : Tally)
+pub rounds_part_more : (p : Program) (reach x y n less : ℕ) (cs : List Command) (t t1 : Tally)
     (m m1 : Mode) (d d1 d' : Device) (k k1 k' : ℕ)
-    → n ≡ suc less → Some cs ≡ storm_round x (transactions_of p.typed)
+    → n ≡ suc less → Some cs ≡ storm_round reach x (transactions_of p.typed)
     → Some y ≡ storm_after x (transactions_of p.typed)
-    → CountsAnswers p cs t m d k t1 m1 d1 k1 → RoundsPart p y less t1 m1 d1 k1 d' k'
-    → RoundsPart p x n t m d k d' k'
-rounds_part_more p x y n less cs t t1 m m1 d d1 d' k k1 k' is commands next one rest =
-    subst (λ (i : ℕ). RoundsPart p x i t m d k d' k') (sym is) (
+    → CountsAnswers p cs t m d k t1 m1 d1 k1 → RoundsPart p reach y less t1 m1 d1 k1 d' k'
+    → RoundsPart p reach x n t m d k d' k'
+rounds_part_more p reach x y n less cs t t1 m m1 d d1 d' k k1 k' is commands next one rest =
+    subst (λ (i : ℕ). RoundsPart p reach x i t m d k d' k') (sym is) (
       suc rest.0,
       omega (arith, rest.1),
       rest.2,
@@ -48,31 +49,35 @@ rounds_part_more p x y n less cs t t1 m m1 d d1 d' k k1 k' is commands next one 
       (cs, y, commands, next, t1, m1, d1, k1, one, rest.4),
     )
 
-pub some_rounds : (fs : List FunctionTree) (p : Program) (x n : ℕ) (t t' : Tally) (m m' : Mode)
-    (d d' : Device) (k k' : ℕ)
-    → 0 < length fs → Rounds p x n t m d k t' m' d' k' → RoundsOf fs p x n t m d k t' m' d' k'
-some_rounds [] p x n t t' m m' d d' k k' some rounds = let no : ⊥ = omega (arith, some) in absurd no
-some_rounds (f ∷ fs) p x n t t' m m' d d' k k' some rounds = rounds
+pub some_rounds : (fs : List FunctionTree) (p : Program) (reach x n : ℕ) (t t' : Tally)
+    (m m' : Mode) (d d' : Device) (k k' : ℕ)
+    → 0 < length fs → Rounds p reach x n t m d k t' m' d' k'
+    → RoundsOf fs p reach x n t m d k t' m' d' k'
+some_rounds [] p reach x n t t' m m' d d' k k' some rounds =
+    let no : ⊥ = omega (arith, some) in absurd no
+some_rounds (f ∷ fs) p reach x n t t' m m' d d' k k' some rounds = rounds
 
-pub some_rages : (p : Program) (start n : ℕ) (t : Tally) (m : Mode) (d d' : Device) (k k' : ℕ)
-    → 0 < length (transactions_of p.typed)
-    → RoundsPart p (min start (2 ^ 32 - 1)) n t m d k d' k' → RagesPart p start n t m d k d' k'
-some_rages p start n t m d d' k k' some part = (
+pub some_rages : (p : Program) (order : StormOrder) (t : Tally) (m : Mode) (d d' : Device)
+    (k k' : ℕ) → 0 < length (transactions_of p.typed)
+    → RoundsPart p order.reach (min order.start (2 ^ 32 - 1)) order.count t m d k d' k'
+    → RagesPart p order t m d k d' k'
+some_rages p order t m d d' k k' some part = (
   part.0,
   part.1,
   part.2,
   part.3,
-  some_rounds (transactions_of p.typed) p (min start (2 ^ 32 - 1)) part.0 t part.2 m
-      part.3 d d' k k'
+  some_rounds (transactions_of p.typed) p order.reach (min order.start (2 ^ 32 - 1)) part.0 t
+      part.2 m part.3 d d' k k'
       some part.4,
 )
 
 -- a storm whose rounds end early, by its answer
-pub rages_part : {A E : Type 0} (r : Result A E) (p : Program) (start x n : ℕ) (t : Tally)
-    (m : Mode) (d d' : Device) (k k' : ℕ) → x ≡ min start (2 ^ 32 - 1)
-    → 0 < length (transactions_of p.typed) → OnErr r (RoundsPart p x n t m d k d' k')
-    → OnErr r (RagesPart p start n t m d k d' k')
-rages_part (Ok v) p start x n t m d d' k k' same some part = tt
-rages_part (Err e) p start x n t m d d' k k' same some part =
-    some_rages p start n t m d d' k k' some
-    (subst (λ (y : ℕ). RoundsPart p y n t m d k d' k') same part)
+pub rages_part : {A E : Type 0} (r : Result A E) (p : Program) (order : StormOrder) (x : ℕ)
+    (t : Tally) (m : Mode) (d d' : Device) (k k' : ℕ) → x ≡ min order.start (2 ^ 32 - 1)
+    → 0 < length (transactions_of p.typed)
+    → OnErr r (RoundsPart p order.reach x order.count t m d k d' k')
+    → OnErr r (RagesPart p order t m d k d' k')
+rages_part (Ok v) p order x t m d d' k k' same some part = tt
+rages_part (Err e) p order x t m d d' k k' same some part =
+    some_rages p order t m d d' k k' some
+    (subst (λ (y : ℕ). RoundsPart p order.reach y order.count t m d k d' k') same part)

@@ -16,6 +16,7 @@ use Rattle.cnvm_session.specs.declared.program.Program.{Program}
 use Rattle.cnvm_session.specs.AnswerText.{answer_text}
 use Rattle.cnvm_session.specs.Commands.{Commanded}
 use Rattle.session_run.specs.declared.status.Status.{Status}
+use Rattle.session_run.specs.declared.storm.StormOrder.{StormOrder}
 use Rattle.session_run.specs.declared.storm.Tally.{Tally}
 use Rattle.session_run.specs.AsStatus.{AsStatus}
 use Rattle.session_run.specs.Made.{Created, Uncreated}
@@ -30,41 +31,41 @@ CountsAnswers program (c ∷ cs) t m d k t' m' d' k' =
     × CountsAnswers program cs (counted c a t) m1 d1 k1 t' m' d' k'
 
 -- `count` rounds of the generator, from the number x on
-abbrev pub Rounds : Program → ℕ → (count : ℕ) → Tally → Mode → Device → ℕ → Tally → Mode → Device
-    → ℕ → Type 0
-Rounds program x zero t m d k t' m' d' k' = (t' ≡ t) × (m' ≡ m) × (d' ≡ d) × (k' ≡ k)
-Rounds program x (suc count) t m d k t' m' d' k' =
+abbrev pub Rounds : Program → (reach : ℕ) → ℕ → (count : ℕ) → Tally → Mode → Device → ℕ → Tally
+    → Mode → Device → ℕ → Type 0
+Rounds program reach x zero t m d k t' m' d' k' = (t' ≡ t) × (m' ≡ m) × (d' ≡ d) × (k' ≡ k)
+Rounds program reach x (suc count) t m d k t' m' d' k' =
     (commands : List Command) × (y : ℕ)
-    × (Some commands ≡ storm_round x (transactions_of program.typed))
+    × (Some commands ≡ storm_round reach x (transactions_of program.typed))
     × (Some y ≡ storm_after x (transactions_of program.typed)) × (t1 : Tally) × (m1 : Mode)
     × (d1 : Device) × (k1 : ℕ)
-    × CountsAnswers program commands t m d k t1 m1 d1 k1 × Rounds program y count t1 m1 d1 k1
+    × CountsAnswers program commands t m d k t1 m1 d1 k1 × Rounds program reach y count t1 m1 d1 k1
     t' m' d' k'
 
 -- for a program without a transaction nothing is run
-abbrev pub RoundsOf : List FunctionTree → Program → ℕ → ℕ → Tally → Mode → Device → ℕ → Tally → Mode
-    → Device → ℕ → Type 0
-RoundsOf [] program x count t m d k t' m' d' k' = (t' ≡ t) × (m' ≡ m) × (d' ≡ d) × (k' ≡ k)
-RoundsOf (f ∷ fs) program x count t m d k t' m' d' k' = Rounds program x count t m d k t' m' d' k'
+abbrev pub RoundsOf : List FunctionTree → Program → (reach : ℕ) → ℕ → (count : ℕ) → Tally → Mode
+    → Device → ℕ → Tally → Mode → Device → ℕ → Type 0
+RoundsOf [] program reach x count t m d k t' m' d' k' = (t' ≡ t) × (m' ≡ m) × (d' ≡ d) × (k' ≡ k)
+RoundsOf (f ∷ fs) program reach x count t m d k t' m' d' k' =
+    Rounds program reach x count t m d k t' m' d' k'
 
-abbrev pub Rages : Program → (start count : ℕ) → Tally → Mode → Device → ℕ → Tally → Mode → Device
-    → ℕ → Type 0
-Rages program start count t m d k t' m' d' k' =
-    RoundsOf (transactions_of program.typed) program (min start (2 ^ 32 - 1)) count t m d k
-    t' m' d' k'
+abbrev pub Rages : Program → StormOrder → Tally → Mode → Device → ℕ → Tally → Mode → Device → ℕ
+    → Type 0
+Rages program order t m d k t' m' d' k' =
+    RoundsOf (transactions_of program.typed) program order.reach (min order.start (2 ^ 32 - 1))
+    order.count t m d k t' m' d' k'
 
 -- fewer rounds are run, since there was no memory for the commands of the next
-abbrev pub RoundsPart : Program → ℕ → (count : ℕ) → Tally → Mode → Device → ℕ → Device → ℕ
-    → Type 0
-RoundsPart program x count t m d k d' k' =
+abbrev pub RoundsPart : Program → (reach : ℕ) → ℕ → (count : ℕ) → Tally → Mode → Device → ℕ
+    → Device → ℕ → Type 0
+RoundsPart program reach x count t m d k d' k' =
     (fewer : ℕ) × (fewer < count) × (t' : Tally) × (m' : Mode)
-    × Rounds program x fewer t m d k t' m' d' k'
+    × Rounds program reach x fewer t m d k t' m' d' k'
 
-abbrev pub RagesPart : Program → (start count : ℕ) → Tally → Mode → Device → ℕ → Device → ℕ
-    → Type 0
-RagesPart program start count t m d k d' k' =
-    (fewer : ℕ) × (fewer < count) × (t' : Tally) × (m' : Mode)
-    × Rages program start fewer t m d k t' m' d' k'
+abbrev pub RagesPart : Program → StormOrder → Tally → Mode → Device → ℕ → Device → ℕ → Type 0
+RagesPart program order t m d k d' k' =
+    (fewer : ℕ) × (fewer < order.count) × (t' : Tally) × (m' : Mode)
+    × Rages program (record order { count = fewer }) t m d k t' m' d' k'
 
 -- the summary is written, and then the answer of `last`
 abbrev pub TallyAll : Program → Tally → Mode → Device → Option (List ℕ) → ℕ → Device
@@ -84,48 +85,48 @@ TallyPart program t m d w k d' w' k' =
     × AppendsPart w1 w' (answer_text a))
 
 -- all rounds are run, and then this is written
-abbrev pub StormsAll : Program → (start count : ℕ) → Mode → Device → Option (List ℕ) → ℕ → Device
+abbrev pub StormsAll : Program → StormOrder → Mode → Device → Option (List ℕ) → ℕ → Device
     → Option (List ℕ) → ℕ → Type 0
-StormsAll program start count m d w k d' w' k' =
-    (t : Tally) × (m1 : Mode) × (d1 : Device) × (k1 : ℕ) × Rages program start count no_tally m d k
+StormsAll program order m d w k d' w' k' =
+    (t : Tally) × (m1 : Mode) × (d1 : Device) × (k1 : ℕ) × Rages program order no_tally m d k
     t m1 d1 k1
     × TallyAll program t m1 d1 w k1 d' w' k'
 
-abbrev pub StormsPart : Program → (start count : ℕ) → Mode → Device → Option (List ℕ) → ℕ → Device
+abbrev pub StormsPart : Program → StormOrder → Mode → Device → Option (List ℕ) → ℕ → Device
     → Option (List ℕ) → ℕ → Type 0
-StormsPart program start count m d w k d' w' k' =
-    (t : Tally) × (m1 : Mode) × (d1 : Device) × (k1 : ℕ) × Rages program start count no_tally m d k
+StormsPart program order m d w k d' w' k' =
+    (t : Tally) × (m1 : Mode) × (d1 : Device) × (k1 : ℕ) × Rages program order no_tally m d k
     t m1 d1 k1
     × TallyPart program t m1 d1 w k1 d' w' k'
 
-abbrev pub StormedAll : Program → (start count : ℕ) → Option (List ℕ) → Option (List ℕ) → Device
+abbrev pub StormedAll : Program → StormOrder → Option (List ℕ) → Option (List ℕ) → Device
     → Device → (k k' : ℕ) → Type 0
-StormedAll program start count w w' d d' k k' =
-    (b : Device) × Created program d b × StormsAll program start count Ready b w k d' w' k'
+StormedAll program order w w' d d' k k' =
+    (b : Device) × Created program d b × StormsAll program order Ready b w k d' w' k'
 
-abbrev pub StormedPart : Program → (start count : ℕ) → Option (List ℕ) → Option (List ℕ) → Device
+abbrev pub StormedPart : Program → StormOrder → Option (List ℕ) → Option (List ℕ) → Device
     → Device → (k k' : ℕ) → Type 0
-StormedPart program start count w w' d d' k k' =
-    (b : Device) × Created program d b × StormsPart program start count Ready b w k d' w' k'
+StormedPart program order w w' d d' k k' =
+    (b : Device) × Created program d b × StormsPart program order Ready b w k d' w' k'
 
 -- there was no memory for all of the storm: fewer rounds are run, and nothing is written; or a part
 -- of the summary is
-abbrev pub StormStarves : Program → (start count : ℕ) → Mode → Device → Option (List ℕ) → ℕ
+abbrev pub StormStarves : Program → StormOrder → Mode → Device → Option (List ℕ) → ℕ
     → Device → Option (List ℕ) → ℕ → Type 0
-StormStarves program start count m d w k d' w' k' =
-    (Keeps w w' × RagesPart program start count no_tally m d k d' k')
-    ⊎ StormsPart program start count m d w k d' w' k'
+StormStarves program order m d w k d' w' k' =
+    (Keeps w w' × RagesPart program order no_tally m d k d' k')
+    ⊎ StormsPart program order m d w k d' w' k'
 
-abbrev pub StormedStarved : Program → (start count : ℕ) → Option (List ℕ) → Option (List ℕ)
+abbrev pub StormedStarved : Program → StormOrder → Option (List ℕ) → Option (List ℕ)
     → Device → Device → (k k' : ℕ) → Type 0
-StormedStarved program start count w w' d d' k k' =
-    (b : Device) × Created program d b × StormStarves program start count Ready b w k d' w' k'
+StormedStarved program order w w' d d' k k' =
+    (b : Device) × Created program d b × StormStarves program order Ready b w k d' w' k'
 
 -- How a storm on a new pool ends, by its status.
-abbrev pub StormedAs : Program → (start count : ℕ) → Status → Option (List ℕ) → Option (List ℕ)
+abbrev pub StormedAs : Program → StormOrder → Status → Option (List ℕ) → Option (List ℕ)
     → Device → Device → (k k' : ℕ) → Type 0
-StormedAs program start count result w w' d d' k k' =
+StormedAs program order result w w' d d' k k' =
     AsStatus (λ why. Uncreated program why w w' d d' k k')
-    (StormedStarved program start count w w' d d' k k')
-    (StormedAll program start count w w' d d' k k')
-    (StormedPart program start count w w' d d' k k') result
+    (StormedStarved program order w w' d d' k k')
+    (StormedAll program order w w' d d' k k')
+    (StormedPart program order w w' d d' k k') result

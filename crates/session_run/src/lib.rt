@@ -18,5 +18,5 @@ pub use image::{save, words_on};
 pub use moving::move_held;
 pub use runs::{run_created, run_from};
 pub use status::Status;
-pub use storm::{Tally, storm_over};
+pub use storm::{StormOrder, Tally, storm_over};
 pub use writing::{put, tell};

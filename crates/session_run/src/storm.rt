@@ -23,6 +23,15 @@ use pmem::Pmem;
 use std::alloc::{AllocError, Global};
 use std::sync::ledger::Ledger;
 
+/// What a storm is asked to run: the rounds that `start` chooses, `count` of them, each cut after
+/// fewer events than `reach`.
+#[derive(Clone, Copy)]
+pub struct StormOrder {
+    pub start: u64,
+    pub count: u64,
+    pub reach: u64,
+}
+
 /// How many commands were answered in each way.
 #[derive(Clone, Copy, PartialEq, Eq)]
 pub struct Tally {
@@ -93,19 +102,19 @@ impl Tally {
 pub fn storm_over<K: Sink, P: Pmem, L: Ledger>(
     alloc: Global,
     program: &Program,
-    start: u64,
-    count: u64,
+    order: StormOrder,
     traps: &mut Traps,
     out: &mut K,
     dev: &mut P,
     steps: &mut Steps<L>,
 ) -> Status
+    requires { 1 ≤ order.reach }
     ensures read { result ≢ Status.ReadFault }
     ensures usage { result ≢ Status.Usage }
     ensures write { result ≡ Status.WriteFault → Rose (K.faults out.old) (K.faults out.new) }
     ensures device { result ≡ Status.DeviceFault
         → device.FaultsRose (P.device dev.old).faults (P.device dev.new).faults }
-    ensures storms { StormedAs program.now start count result (K.written out.old)
+    ensures storms { StormedAs program.now order result (K.written out.old)
         (K.written out.new) (P.device dev.old) (P.device dev.new) steps.old steps.new }
 {
     let mut session = match create(program, dev) {
@@ -113,29 +122,18 @@ pub fn storm_over<K: Sink, P: Pmem, L: Ledger>(
         Err(StartFault::Failed) => return Status::DeviceFault,
         Err(StartFault::NoMemory) => return Status::NoMemory,
     };
-    match storm(
-        alloc,
-        program,
-        start,
-        count,
-        &mut session,
-        traps,
-        out,
-        dev,
-        steps,
-    ) {
+    match storm(alloc, program, order, &mut session, traps, out, dev, steps) {
         Ok(()) => Status::Done,
         Err(Unwritten::NoMemory) => Status::NoMemory,
         Err(Unwritten::WriteFault) => Status::WriteFault,
     }
 }
 
-/// Runs `count` rounds, and writes the summary and the answer of `last`.
+/// Runs the rounds, and writes the summary and the answer of `last`.
 fn storm<K: Sink, P: Pmem, L: Ledger>(
     alloc: Global,
     program: &Program,
-    start: u64,
-    count: u64,
+    order: StormOrder,
     session: &mut Session,
     traps: &mut Traps,
     out: &mut K,
@@ -143,20 +141,21 @@ fn storm<K: Sink, P: Pmem, L: Ledger>(
     steps: &mut Steps<L>,
 ) -> Result<(), Unwritten>
     requires lines { (P.device dev.old).lines ≡ pool_lines program.now.image.parts.sizes }
-    ensures whole { OnOk result (StormsAll program.now start count session.old (P.device dev.old)
+    requires reach { 1 ≤ order.reach }
+    ensures whole { OnOk result (StormsAll program.now order session.old (P.device dev.old)
         (K.written out.old) steps.old (P.device dev.new) (K.written out.new) steps.new) }
-    ensures part { OnErr result (StormStarves program.now start count session.old
+    ensures part { OnErr result (StormStarves program.now order session.old
         (P.device dev.old) (K.written out.old) steps.old (P.device dev.new) (K.written out.new)
         steps.new) }
     ensures fault { IsErrOf result Unwritten.WriteFault
-        → StormsPart program.now start count session.old (P.device dev.old) (K.written out.old)
+        → StormsPart program.now order session.old (P.device dev.old) (K.written out.old)
         steps.old (P.device dev.new) (K.written out.new) steps.new }
     ensures write { IsErrOf result Unwritten.WriteFault
         → Rose (K.faults out.old) (K.faults out.new) }
 {
     let mut tally = Tally::new();
     if rounds(
-        alloc, program, start, count, session, traps, &mut tally, dev, steps,
+        alloc, program, order, session, traps, &mut tally, dev, steps,
     )
     .is_err()
     {
@@ -194,8 +193,7 @@ fn put_counts<K: Sink, P: Pmem, L: Ledger>(
 fn rounds<P: Pmem, L: Ledger>(
     alloc: Global,
     program: &Program,
-    start: u64,
-    count: u64,
+    order: StormOrder,
     session: &mut Session,
     traps: &mut Traps,
     tally: &mut Tally,
@@ -203,18 +201,19 @@ fn rounds<P: Pmem, L: Ledger>(
     steps: &mut Steps<L>,
 ) -> Result<(), AllocError>
     requires lines { (P.device dev.old).lines ≡ pool_lines program.now.image.parts.sizes }
-    ensures rages { OnOk result (Rages program.now start count tally.old session.old
+    requires reach { 1 ≤ order.reach }
+    ensures rages { OnOk result (Rages program.now order tally.old session.old
         (P.device dev.old) steps.old tally.new session.new (P.device dev.new) steps.new) }
-    ensures part { OnErr result (RagesPart program.now start count tally.old session.old
+    ensures part { OnErr result (RagesPart program.now order tally.old session.old
         (P.device dev.old) steps.old (P.device dev.new) steps.new) }
     ensures lines { (P.device dev.new).lines ≡ (P.device dev.old).lines }
 {
     if program.typed.txs() == 0 {
         return Ok(());
     }
-    let mut storm = Storm::new(seed(start));
+    let mut storm = Storm::new(seed(order.start));
     run_rounds(
-        alloc, program, count, &mut storm, session, traps, tally, dev, steps,
+        alloc, program, order, &mut storm, session, traps, tally, dev, steps,
     )
 }
 
@@ -228,11 +227,11 @@ fn seed(start: u64) -> u32
     }
 }
 
-/// Runs `count` rounds of a program that has a transaction.
+/// Runs the rounds of a program that has a transaction.
 fn run_rounds<P: Pmem, L: Ledger>(
     alloc: Global,
     program: &Program,
-    count: u64,
+    order: StormOrder,
     storm: &mut Storm,
     session: &mut Session,
     traps: &mut Traps,
@@ -242,14 +241,16 @@ fn run_rounds<P: Pmem, L: Ledger>(
 ) -> Result<(), AllocError>
     requires lines { (P.device dev.old).lines ≡ pool_lines program.now.image.parts.sizes }
     requires some { 0 < length (transactions_of program.now.typed) }
-    ensures rounds { OnOk result (Rounds program.now storm.old count tally.old session.old
-        (P.device dev.old) steps.old tally.new session.new (P.device dev.new) steps.new) }
-    ensures part { OnErr result (RoundsPart program.now storm.old count tally.old session.old
-        (P.device dev.old) steps.old (P.device dev.new) steps.new) }
+    requires reach { 1 ≤ order.reach }
+    ensures rounds { OnOk result (Rounds program.now order.reach storm.old order.count tally.old
+        session.old (P.device dev.old) steps.old tally.new session.new (P.device dev.new)
+        steps.new) }
+    ensures part { OnErr result (RoundsPart program.now order.reach storm.old order.count tally.old
+        session.old (P.device dev.old) steps.old (P.device dev.new) steps.new) }
     ensures lines { (P.device dev.new).lines ≡ (P.device dev.old).lines }
 {
-    for round in 0..count {
-        let script = storm.round(alloc, &program.typed)?;
+    for round in 0..order.count {
+        let script = storm.round(alloc, &program.typed, order.reach)?;
         run_round(
             alloc,
             program,

@@ -11,12 +11,14 @@ use Rattle.cnvm_words.specs.declared.plan.Plan.{Plan}
 use Rattle.cnvm_words.specs.declared.plan.Plan.TheVariants as plan
 use Rattle.cnvm_cli.specs.declared.refused.Refused.{Refused}
 use Rattle.session_run.specs.declared.status.Status.{Status}
+use Rattle.session_run.specs.declared.storm.StormOrder.{StormOrder}
 use Rattle.cnvm_cli.specs.CodeEnds.{CodeEnds}
 use Rattle.cnvm_cli.specs.Emitted.{EmitEnds}
 use Rattle.cnvm_cli.specs.Listed.{ListEnds}
 use Rattle.cnvm_cli.specs.Meant.{Start, Fresh, FromImage, start_if}
 use Rattle.cnvm_cli.specs.Run.{RefusedAs}
 use Rattle.session_run.specs.Saved.{SavedAs}
+use Rattle.cnvm_cli.specs.StormMeant.{ordered}
 use Rattle.cnvm_cli.specs.Verdict.{asked_by, OfBytes, ProgramRefuses, TextsGive, TextsRefuse}
 use Rattle.cnvm_cli.specs.WhyEnds.{WhyEnds}
 use Rattle.cnvm_cli.specs.inside.ServeEnds.{MemoryEnds}
@@ -70,13 +72,13 @@ RunEnds asked told opens saves result before after =
 
 -- How a storm ends: the program is refused, this is reported, and nothing is run; or the storm is
 -- run on a new pool.
-abbrev pub StormEnds : Asked → (start count : ℕ) → (program : Option (List ℕ)) → Status
+abbrev pub StormEnds : Asked → StormOrder → (program : Option (List ℕ)) → Status
     → Option (List ℕ) → Option (List ℕ) → Device → Device
     → (k k' : ℕ) → Type 0
-StormEnds asked start count program result w w' d d' k k' =
+StormEnds asked order program result w w' d d' k k' =
     ((why : Refused) × ProgramRefuses program why × RefusedAs why result w w' × (d' ≡ d) × (k' ≡ k))
     ⊎ ((compiled : Compiled) × OfBytes program (λ text. IsCompiled asked text compiled)
-    × StormedAs compiled.program start count result w w' d d' k k')
+    × StormedAs compiled.program order result w w' d d' k k')
 
 -- How the call ends, by its plan.
 abbrev pub PlanEnds : Plan → Sources → Status → (before after : Outside) → Type 0
@@ -93,8 +95,8 @@ PlanEnds (plan.ServePool p slots records ticks pool former) told result before a
     Keeps before.image after.image × (after.dev ≡ before.dev)
 PlanEnds (plan.List p) told result before after =
     ListEnds told.program result before.out after.out × IsUntouched before after
-PlanEnds (plan.Storm p start count slots records ticks) told result before after =
-    StormEnds (asked_by slots records ticks) start count told.program
+PlanEnds (plan.Storm p start count reach slots records ticks) told result before after =
+    StormEnds (asked_by slots records ticks) (ordered start count reach) told.program
     result before.out after.out before.dev
     after.dev before.steps after.steps
     × Keeps before.image after.image

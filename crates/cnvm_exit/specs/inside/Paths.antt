@@ -63,7 +63,7 @@ paths_in (Some (plan.Serve program slots records ticks)) = served_paths program 
 paths_in (Some (plan.ServePool program slots records ticks pool former)) =
     served_paths program pool former
 paths_in (Some (plan.List program)) = program_alone program
-paths_in (Some (plan.Storm program start count slots records ticks)) = program_alone program
+paths_in (Some (plan.Storm program start count reach slots records ticks)) = program_alone program
 paths_in (Some (plan.Why program)) = program_alone program
 paths_in (Some (plan.Workers program script workers slots records ticks)) = record {
   program = program;

@@ -5,9 +5,9 @@ use Rattle.session_run.proofs.storm.rounds.Goals as goal
 
 pub returns-clause-part : goal.returns-clause-part
 returns-clause-part g c =
-    let same : c.new-storm.result ≡ min c.args.start (2 ^ 32 - 1) = search rules in
+    let same : c.new-storm.result ≡ min c.args.order.start (2 ^ 32 - 1) = search rules in
     let some : 0 < length (transactions_of c.args.program.now.typed) = search rules in
-    rages_part c.run_rounds.result c.args.program.now c.args.start c.new-storm.result c.args.count
+    rages_part c.run_rounds.result c.args.program.now c.args.order c.new-storm.result
     c.args.tally.now c.args.session.now (g.P.PmemWork.device c.args.dev.now)
     (g.P.PmemWork.device c.run_rounds.new.dev) c.args.steps.now c.run_rounds.new.steps same some
     c.run_rounds.ensures.part

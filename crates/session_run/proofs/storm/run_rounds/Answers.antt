@@ -9,15 +9,18 @@ loop-round-preserved g c =
       lines = search rules;
       same = search rules;
       leads = λ t m d k rest. c.loop-round.invariant.leads t m d k
-          (rounds_more c.args.program.now c.loop-round.storm c.round.new.self
-          (c.args.count - c.loop-round.round) (c.args.count - (c.loop-round.round + 1))
+          (rounds_more c.args.program.now c.args.order.reach c.loop-round.storm c.round.new.self
+          (c.args.order.count - c.loop-round.round)
+          (c.args.order.count - (c.loop-round.round + 1))
           c.as_slice.result.now _ _ t _ _ m _ _ d _ _ k (omega arith)
           (ap (λ (l : List Command). Some l) c.as_slice.ensures ∙ c.in_ok-script.ensures.commands)
           c.in_ok-script.ensures.state
           c.run_round.ensures.counts rest);
       part = λ d k rest. c.loop-round.invariant.part d k
-          (rounds_part_more c.args.program.now c.loop-round.storm c.round.new.self
-          (c.args.count - c.loop-round.round) (c.args.count - (c.loop-round.round + 1))
+          (rounds_part_more c.args.program.now c.args.order.reach c.loop-round.storm
+          c.round.new.self
+          (c.args.order.count - c.loop-round.round)
+          (c.args.order.count - (c.loop-round.round + 1))
           c.as_slice.result.now _ _ _ _ _ _ d _ _ k (omega arith)
           (ap (λ (l : List Command). Some l) c.as_slice.ensures ∙ c.in_ok-script.ensures.commands)
           c.in_ok-script.ensures.state

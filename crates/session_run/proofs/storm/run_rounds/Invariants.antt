@@ -13,13 +13,13 @@ invariant-loop-round g l =
       lines : (dev l.dev).lines ≡ pool_lines l.program.image.parts.sizes;
       same : (dev l.dev).lines ≡ (dev l.initial.dev).lines;
       leads : (t : Tally) (m : Mode) (d : Device) (k : ℕ)
-          → Rounds l.program l.storm (l.count - l.round) l.tally l.session (dev l.dev)
-          l.steps t m d k
-          → Rounds l.program l.initial.storm l.count l.initial.tally l.initial.session
-          (dev l.initial.dev) l.initial.steps t m d k;
+          → Rounds l.program l.order.reach l.storm (l.order.count - l.round) l.tally l.session
+          (dev l.dev) l.steps t m d k
+          → Rounds l.program l.order.reach l.initial.storm l.order.count l.initial.tally
+          l.initial.session (dev l.initial.dev) l.initial.steps t m d k;
       part : (d : Device) (k : ℕ)
-          → RoundsPart l.program l.storm (l.count - l.round) l.tally l.session (dev l.dev)
-          l.steps d k
-          → RoundsPart l.program l.initial.storm l.count l.initial.tally l.initial.session
-          (dev l.initial.dev) l.initial.steps d k;
+          → RoundsPart l.program l.order.reach l.storm (l.order.count - l.round) l.tally l.session
+          (dev l.dev) l.steps d k
+          → RoundsPart l.program l.order.reach l.initial.storm l.order.count l.initial.tally
+          l.initial.session (dev l.initial.dev) l.initial.steps d k;
     }
