@@ -18,6 +18,7 @@ word_table =
     (codes "persistent", word.Persistent) ∷
     (codes "root", word.Root) ∷
     (codes "tx", word.Tx) ∷
+    (codes "const", word.Const) ∷
     (codes "if", word.If) ∷
     (codes "else", word.Else) ∷
     (codes "while", word.While) ∷
@@ -37,7 +38,6 @@ never_accepted =
     codes "auto" ∷
     codes "case" ∷
     codes "char" ∷
-    codes "const" ∷
     codes "default" ∷
     codes "double" ∷
     codes "extern" ∷

@@ -114,6 +114,8 @@ pub enum Word {
     Root,
     /// `tx`
     Tx,
+    /// `const`
+    Const,
     /// `if`
     If,
     /// `else`

@@ -12,7 +12,7 @@ use nvm_base::Text;
 use std::alloc::{AllocError, Global};
 use std::str;
 
-const WORDS: [(&str, Word); 19] = [
+const WORDS: [(&str, Word); 20] = [
     ("int64_t", Word::Int64),
     ("void", Word::Void),
     ("struct", Word::Struct),
@@ -20,6 +20,7 @@ const WORDS: [(&str, Word); 19] = [
     ("persistent", Word::Persistent),
     ("root", Word::Root),
     ("tx", Word::Tx),
+    ("const", Word::Const),
     ("if", Word::If),
     ("else", Word::Else),
     ("while", Word::While),
@@ -34,10 +35,10 @@ const WORDS: [(&str, Word); 19] = [
     ("abort", Word::Abort),
 ];
 
-const NEVER_ACCEPTED: [&str; 23] = [
-    "auto", "case", "char", "const", "default", "double", "extern", "float", "goto", "inline",
-    "int", "long", "register", "restrict", "short", "signed", "sizeof", "static", "switch",
-    "typedef", "union", "unsigned", "volatile",
+const NEVER_ACCEPTED: [&str; 22] = [
+    "auto", "case", "char", "default", "double", "extern", "float", "goto", "inline", "int",
+    "long", "register", "restrict", "short", "signed", "sizeof", "static", "switch", "typedef",
+    "union", "unsigned", "volatile",
 ];
 
 fn first_spelled(run: &[u8], table: &[(&str, Word)]) -> Option<Word>
@@ -69,7 +70,7 @@ fn is_among(run: &[u8], table: &[&str]) -> bool
 fn profile_word(run: &[u8]) -> Option<Word>
     ensures { result ≡ word_spelled run.now }
 {
-    let table: [(&str, Word); 19] = WORDS;
+    let table: [(&str, Word); 20] = WORDS;
     first_spelled(run, table.as_slice())
 }
 
@@ -78,7 +79,7 @@ fn profile_word(run: &[u8]) -> Option<Word>
 fn is_reserved(run: &[u8]) -> bool
     ensures { result ≡ is_never_accepted run.now }
 {
-    let table: [&str; 23] = NEVER_ACCEPTED;
+    let table: [&str; 22] = NEVER_ACCEPTED;
     is_among(run, table.as_slice())
 }
 

@@ -52,7 +52,10 @@ use Rattle.c_tree.specs.ItemSpelling.{SpellsField, single, array, SpellsFields, 
 use Rattle.c_tree.specs.ItemSpelling.{fields_more, SpellsParameters, parameters_last}
 use Rattle.c_tree.specs.ItemSpelling.{parameters_more, Signature, signature_none, signature_void}
 use Rattle.c_tree.specs.ItemSpelling.{signature_some, ResultType, result_void, result_some}
-use Rattle.c_tree.specs.ItemSpelling.{unmarked, marked, SpellsFunction, function, SpellsItem}
+use Rattle.c_tree.specs.declared.item.Marked.{Marked}
+use Rattle.c_tree.specs.declared.item.Marked.TheVariants as mark_of
+use Rattle.c_tree.specs.ItemSpelling.{unmarked, marked_abort, marked_const, SpellsFunction}
+use Rattle.c_tree.specs.ItemSpelling.{function, SpellsItem}
 use Rattle.c_tree.specs.ItemSpelling.{struct_def, root_decl, transaction, plain_function}
 use Rattle.c_tree.specs.ItemSpelling.{SpellsItems, items_end, items_more, SpellsProgram}
 use Rattle.c_parser.specs.inside.Wants as wants
@@ -121,6 +124,7 @@ word_token word.Enum = tt
 word_token word.Persistent = tt
 word_token word.Root = tt
 word_token word.Tx = tt
+word_token word.Const = tt
 word_token word.If = tt
 word_token word.Else = tt
 word_token word.While = tt
@@ -221,7 +225,9 @@ module _ (ts : List Placed) where
   Stands i (TxResult ∷ k) =
       ((kind_at ts i ≡ kind.Abort) × (j : ℕ) × (r : Option TypeTree) × ResultType ts (i + 1) j r
       × Stands j k)
-      ⊎ ((j : ℕ) × (r : Option TypeTree) × ResultType ts i j r × Stands j k)
+      ⊎ (((kind_at ts i ≡ kind.Const) × (j : ℕ) × (r : Option TypeTree)
+      × ResultType ts (i + 1) j r × Stands j k)
+      ⊎ ((j : ℕ) × (r : Option TypeTree) × ResultType ts i j r × Stands j k))
   Stands i (OpenParameters ∷ k) = (kind_at ts i ≡ kind.OpenRound) × (j : ℕ)
       × (ps : List ParameterTree) × Signature ts (i + 1) j ps × Stands j k
   Stands i (Parameters ∷ k) = (j : ℕ) × (ps : List ParameterTree) × Signature ts i j ps × Stands j k
@@ -781,7 +787,8 @@ module _ (ts : List Placed) where
     tx_result_back : (k : List Want) (t : Kind) → kind_at ts i ≡ t → (u : Option (List Want))
         → Then (i + 1) (apply_move (wants.tx_result t) k u) → Stands i (TxResult ∷ k)
     tx_result_back k kind.Abort is u (j, r, rt, st) = inl (is, j, r, rt, st)
-    tx_result_back k t is u h = inr (result_back k t is u h)
+    tx_result_back k kind.Const is u (j, r, rt, st) = inr (inl (is, j, r, rt, st))
+    tx_result_back k t is u h = inr (inr (result_back k t is u h))
 
     open_parameters_back : (k : List Want) (t : Kind) → kind_at ts i ≡ t → (u : Option (List Want))
         → Then (i + 1) (apply_move (wants.open_parameters t) k u) → Stands i (OpenParameters ∷ k)
@@ -848,13 +855,13 @@ module _ (ts : List Placed) where
   struct_or_function_back i k _ is u h = absurd h
 
   -- a function, from its result on
-  made : (tx b : Bool) (i m j : ℕ) (r : Option TypeTree) → ResultType ts i m r
+  made : (tx : Bool) (b : Marked) (i m j : ℕ) (r : Option TypeTree) → ResultType ts i m r
       → kind_at ts m ≡ kind.Name → Functioning (m + 1) j
       → (x : ItemTree) × SpellsFunction ts tx b i j x
   made tx b i m j r rt nm (o, n, ps, s, c, p, all, h, z, e) = (
     itree.Function (record {
       tx = tx;
-      rolls_back = b;
+      mark = b;
       result_type = r;
       name = ident_at ts m;
       parameters = ps;
@@ -863,7 +870,7 @@ module _ (ts : List Placed) where
     subst (λ j. SpellsFunction ts tx b i j
         (itree.Function (record {
           tx = tx;
-          rolls_back = b;
+          mark = b;
           result_type = r;
           name = ident_at ts m;
           parameters = ps;
@@ -880,7 +887,8 @@ module _ (ts : List Placed) where
       → Stands m (Ident ∷ OpenParameters ∷ OpenBody ∷ Items ∷ k) → (xs : List ItemTree)
       × SpellsItems ts i (length ts) xs
   item_plain i m k r rt h = let f = functioned m (Items ∷ k) h in
-      let x = made false false i m f.1 r rt f.0 f.2 in item_more i f.1 x.0 (plain_function x.1) f.3
+      let x = made false mark_of.Plain i m f.1 r rt f.0 f.2 in
+      item_more i f.1 x.0 (plain_function x.1) f.3
 
   items_back : (i : ℕ) (k : List Want) (t : Kind) → kind_at ts i ≡ t → IsToken t
       → Then (i + 1) (apply_move (wants.items t) k (parser_step k t)) → (xs : List ItemTree)
@@ -889,19 +897,23 @@ module _ (ts : List Placed) where
       item_more i (n + 1 + 1) (itree.Struct (ident_at ts (i + 1)) (f ∷ fs))
       (struct_def is nm b fh fsh c z) rest
   items_back i k kind.Struct is token (nm, inr (s, fnm, j, fun, rest)) =
-      let x = made false false i (i + 1 + 1 + 1) j (Some (tree.Pointer (ident_at ts (i + 1))))
-      (result_some (pointer is nm s)) fnm fun in
+      let x = made false mark_of.Plain i (i + 1 + 1 + 1) j
+      (Some (tree.Pointer (ident_at ts (i + 1)))) (result_some (pointer is nm s)) fnm fun in
       item_more i j x.0 (plain_function x.1) rest
   items_back i k kind.Persistent is token (w, (nm, (r, (z, rest)))) =
       item_more i (i + 1 + 1 + 1 + 1 + 1) (itree.Root (ident_at ts (i + 1 + 1)) (i + 1 + 1 + 1))
       (root_decl is w nm r z) rest
   items_back i k kind.Tx is token (inl (word, m, r, rt, h)) =
       let f = functioned m (Items ∷ k) h in
-      let x = made true true (i + 1 + 1) m f.1 r rt f.0 f.2 in
-      item_more i f.1 x.0 (transaction (marked is word) x.1) f.3
-  items_back i k kind.Tx is token (inr (m, r, rt, h)) =
+      let x = made true mark_of.Abort (i + 1 + 1) m f.1 r rt f.0 f.2 in
+      item_more i f.1 x.0 (transaction (marked_abort is word) x.1) f.3
+  items_back i k kind.Tx is token (inr (inl (word, m, r, rt, h))) =
       let f = functioned m (Items ∷ k) h in
-      let x = made true false (i + 1) m f.1 r rt f.0 f.2 in
+      let x = made true mark_of.Const (i + 1 + 1) m f.1 r rt f.0 f.2 in
+      item_more i f.1 x.0 (transaction (marked_const is word) x.1) f.3
+  items_back i k kind.Tx is token (inr (inr (m, r, rt, h))) =
+      let f = functioned m (Items ∷ k) h in
+      let x = made true mark_of.Plain (i + 1) m f.1 r rt f.0 f.2 in
       item_more i f.1 x.0 (transaction (unmarked is) x.1) f.3
   items_back i k kind.Int is token h =
       item_plain i (i + 1) k (Some tree.Int) (result_some (int is)) h

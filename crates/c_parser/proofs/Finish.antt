@@ -351,6 +351,7 @@ result_fine k _ u f = tt
 tx_result_fine : (k : List Want) (t : Kind) (u : Option (List Want)) → Fine k
     → IfFine (apply_move (wants.tx_result t) k u)
 tx_result_fine k kind.Abort u f = (tt, f)
+tx_result_fine k kind.Const u f = (tt, f)
 tx_result_fine k t u f = result_fine k t u f
 
 open_parameters_fine : (k : List Want) (t : Kind) (u : Option (List Want)) → Fine k

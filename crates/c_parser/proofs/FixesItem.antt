@@ -20,7 +20,10 @@ use Rattle.c_tree.specs.ItemSpelling.{SpellsField, single, array, SpellsFields, 
 use Rattle.c_tree.specs.ItemSpelling.{fields_more, SpellsParameters, parameters_last}
 use Rattle.c_tree.specs.ItemSpelling.{parameters_more, Signature, signature_none, signature_void}
 use Rattle.c_tree.specs.ItemSpelling.{signature_some, ResultType, result_void, result_some}
-use Rattle.c_tree.specs.ItemSpelling.{SpellsTransaction, unmarked, marked, SpellsFunction, function}
+use Rattle.c_tree.specs.declared.item.Marked.{Marked}
+use Rattle.c_tree.specs.declared.item.Marked.TheVariants as mark
+use Rattle.c_tree.specs.ItemSpelling.{SpellsTransaction, unmarked, marked_abort, marked_const}
+use Rattle.c_tree.specs.ItemSpelling.{SpellsFunction, function}
 use Rattle.c_tree.specs.ItemSpelling.{SpellsItem, struct_def, root_decl, transaction}
 use Rattle.c_tree.specs.ItemSpelling.{plain_function, SpellsItems, items_end, items_more}
 use Rattle.c_tree.specs.ItemSpelling.{SpellsProgram}
@@ -369,25 +372,25 @@ result_typed ts i j t not fixes = record { same = λ k x d. taken d }
     taken (result_void was) = absurd (not was)
     taken {k} (result_some {t = s} d) = let f = fixes.same k s d in (f.0, ap (λ t. Some t) f.1)
 
-abbrev a_function : Bool → Bool → Option TypeTree → Ident → List ParameterTree → Statements
+abbrev a_function : Bool → Marked → Option TypeTree → Ident → List ParameterTree → Statements
     → ItemTree
 a_function tx b r y ps all = tree.Function (record {
   tx = tx;
-  rolls_back = b;
+  mark = b;
   result_type = r;
   name = y;
   parameters = ps;
   body = all;
 })
 
-pub function_read : (ts : List Placed) (tx b : Bool) (i m o a n c j : ℕ) (r : Option TypeTree)
-    (y : Ident) (ps : List ParameterTree) (all : Statements)
+pub function_read : (ts : List Placed) (tx : Bool) (b : Marked) (i m o a n c j : ℕ)
+    (r : Option TypeTree) (y : Ident) (ps : List ParameterTree) (all : Statements)
     → Fixes (ResultType ts i) m r → y ≡ ident_at ts m → (m < length ts → o ≡ m + 1)
     → (o < length ts → a ≡ o + 1) → Fixes (Signature ts a) n ps
     → (n < length ts → c ≡ n + 1) → Fixes (StatedAll ts c) j all
     → Fixes (SpellsFunction ts tx b i) j (tree.Function (record {
       tx = tx;
-      rolls_back = b;
+      mark = b;
       result_type = r;
       name = y;
       parameters = ps;
@@ -455,7 +458,7 @@ root_read ts i n m r d j y to_n to_m name to_r to_d to_j = record { same = λ k 
         )
 
 -- items, by their first tokens
-function_begins : {ts : List Placed} {tx b : Bool} {i k : ℕ} {t : ItemTree}
+function_begins : {ts : List Placed} {tx : Bool} {b : Marked} {i k : ℕ} {t : ItemTree}
     → SpellsFunction ts tx b i k t → kind_at ts i ≡ kind.Struct
     → (kind_at ts (i + 1) ≡ kind.Name) × (kind_at ts (i + 1 + 1) ≡ kind.Operator op.Mul)
 function_begins (function (result_void v) was opens two brace three close) is = absurd (cc)
@@ -463,10 +466,11 @@ function_begins (function (result_some (int v)) was opens two brace three close)
 function_begins (function (result_some (pointer v name star)) was opens two brace three close) is =
     (name, star)
 
-mark_begins : {ts : List Placed} {i k : ℕ} {b : Bool} → SpellsTransaction ts i k b
+mark_begins : {ts : List Placed} {i k : ℕ} {b : Marked} → SpellsTransaction ts i k b
     → kind_at ts i ≡ kind.Tx
 mark_begins (unmarked is) = is
-mark_begins (marked is abort) = is
+mark_begins (marked_abort is word) = is
+mark_begins (marked_const is word) = is
 
 pub item_struct : (ts : List Placed) (i : ℕ) → Defines ts i
     → DerivesFrom (SpellsItem ts i) (SpellsStruct ts i)
@@ -486,7 +490,7 @@ pub item_root : (ts : List Placed) (i : ℕ) → kind.Persistent ≡ kind_at ts 
     → DerivesFrom (SpellsItem ts i) (SpellsRoot ts i)
 item_root ts i be = record { on = λ k t d. taken d }
   where
-    no_function : {tx b : Bool} {k : ℕ} {t : ItemTree} → SpellsFunction ts tx b i k t
+    no_function : {tx : Bool} {b : Marked} {k : ℕ} {t : ItemTree} → SpellsFunction ts tx b i k t
         → kind.Persistent ≡ kind_at ts i → ⊥
     no_function (function (result_void v) was opens two brace three close) is = cc
     no_function (function (result_some (int v)) was opens two brace three close) is = cc
@@ -500,35 +504,57 @@ item_root ts i be = record { on = λ k t d. taken d }
     taken (plain_function d) = absurd (no_function d be)
 
 pub mark_abort : (ts : List Placed) (i n m : ℕ) → (i < length ts → n ≡ i + 1)
-    → kind_at ts n ≡ kind.Abort → (n < length ts → m ≡ n + 1)
-    → Fixes (IsFollowed ts BeginsResult (SpellsTransaction ts i)) m true
+    → kind.Abort ≡ kind_at ts n → (n < length ts → m ≡ n + 1)
+    → Fixes (IsFollowed ts BeginsResult (SpellsTransaction ts i)) m mark.Abort
 mark_abort ts i n m to_n word to_m = record { same = λ k b h. taken h.spelled h.following }
   where
-    taken : {k : ℕ} {b : Bool} → SpellsTransaction ts i k b → BeginsResult (kind_at ts k)
-        → (m ≡ k) × (true ≡ b)
+    taken : {k : ℕ} {b : Marked} → SpellsTransaction ts i k b → BeginsResult (kind_at ts k)
+        → (m ≡ k) × (mark.Abort ≡ b)
     taken (unmarked is) follows =
         let a = after ts i n kind.Tx is tt to_n in
-        absurd (subst BeginsResult (ap (kind_at ts) (sym a) ∙ word) follows)
-    taken (marked is abort) follows =
+        absurd (subst BeginsResult (ap (kind_at ts) (sym a) ∙ sym word) follows)
+    taken (marked_abort is abort) follows =
         let a = after ts i n kind.Tx is tt to_n in
         (after_at ts n (i + 1) m kind.Abort a abort tt to_m, refl)
+    taken (marked_const is const) follows =
+        let a = after ts i n kind.Tx is tt to_n in
+        let e : kind.Abort ≡ kind.Const = word ∙ ap (kind_at ts) a ∙ const in absurd (cc)
 
-pub mark_plain : (ts : List Placed) (i n : ℕ) → (i < length ts → n ≡ i + 1)
-    → kind_at ts n ≢ kind.Abort
-    → Fixes (IsFollowed ts BeginsResult (SpellsTransaction ts i)) n false
-mark_plain ts i n to_n not = record { same = λ k b h. taken h.spelled }
+pub mark_const : (ts : List Placed) (i n m : ℕ) → (i < length ts → n ≡ i + 1)
+    → kind.Const ≡ kind_at ts n → (n < length ts → m ≡ n + 1)
+    → Fixes (IsFollowed ts BeginsResult (SpellsTransaction ts i)) m mark.Const
+mark_const ts i n m to_n word to_m = record { same = λ k b h. taken h.spelled h.following }
   where
-    taken : {k : ℕ} {b : Bool} → SpellsTransaction ts i k b → (n ≡ k) × (false ≡ b)
-    taken (unmarked is) = (after ts i n kind.Tx is tt to_n, refl)
-    taken (marked is abort) =
-        absurd (not (ap (kind_at ts) (after ts i n kind.Tx is tt to_n) ∙ abort))
+    taken : {k : ℕ} {b : Marked} → SpellsTransaction ts i k b → BeginsResult (kind_at ts k)
+        → (m ≡ k) × (mark.Const ≡ b)
+    taken (unmarked is) follows =
+        let a = after ts i n kind.Tx is tt to_n in
+        absurd (subst BeginsResult (ap (kind_at ts) (sym a) ∙ sym word) follows)
+    taken (marked_abort is abort) follows =
+        let a = after ts i n kind.Tx is tt to_n in
+        let e : kind.Const ≡ kind.Abort = word ∙ ap (kind_at ts) a ∙ abort in absurd (cc)
+    taken (marked_const is const) follows =
+        let a = after ts i n kind.Tx is tt to_n in
+        (after_at ts n (i + 1) m kind.Const a const tt to_m, refl)
 
-pub item_transaction : (ts : List Placed) (i n : ℕ) (b : Bool) → kind.Tx ≡ kind_at ts i
+pub mark_plain : (ts : List Placed) (i n : ℕ) (s : Kind) → (i < length ts → n ≡ i + 1)
+    → s ≡ kind_at ts n → s ≢ kind.Abort → s ≢ kind.Const
+    → Fixes (IsFollowed ts BeginsResult (SpellsTransaction ts i)) n mark.Plain
+mark_plain ts i n s to_n be not_abort not_const = record { same = λ k b h. taken h.spelled }
+  where
+    taken : {k : ℕ} {b : Marked} → SpellsTransaction ts i k b → (n ≡ k) × (mark.Plain ≡ b)
+    taken (unmarked is) = (after ts i n kind.Tx is tt to_n, refl)
+    taken (marked_abort is abort) = absurd (not_abort
+        (be ∙ ap (kind_at ts) (after ts i n kind.Tx is tt to_n) ∙ abort))
+    taken (marked_const is const) = absurd (not_const
+        (be ∙ ap (kind_at ts) (after ts i n kind.Tx is tt to_n) ∙ const))
+
+pub item_transaction : (ts : List Placed) (i n : ℕ) (b : Marked) → kind.Tx ≡ kind_at ts i
     → Fixes (IsFollowed ts BeginsResult (SpellsTransaction ts i)) n b
     → DerivesFrom (SpellsItem ts i) (SpellsFunction ts true b n)
 item_transaction ts i n b be fixes = record { on = λ k t d. taken d }
   where
-    no_function : {tx c : Bool} {k : ℕ} {t : ItemTree} → SpellsFunction ts tx c i k t
+    no_function : {tx : Bool} {c : Marked} {k : ℕ} {t : ItemTree} → SpellsFunction ts tx c i k t
         → kind.Tx ≡ kind_at ts i → ⊥
     no_function (function (result_void v) was opens two brace three close) is = cc
     no_function (function (result_some (int v)) was opens two brace three close) is = cc
@@ -538,7 +564,7 @@ item_transaction ts i n b be fixes = record { on = λ k t d. taken d }
     taken : {k : ℕ} {t : ItemTree} → SpellsItem ts i k t → SpellsFunction ts true b n k t
     taken (struct_def is was opens one more close semi) = absurd (cc)
     taken (root_decl is struct was root semi) = absurd (cc)
-    taken {k} {t} (transaction {rolls_back = c} {m = m} mark d) =
+    taken {k} {t} (transaction {a = c} {m = m} mark d) =
         let f = fixes.same m c (record { spelled = mark; following = function_result d }) in
         subst (λ n. SpellsFunction ts true b n k t) (sym f.0)
         (subst (λ b. SpellsFunction ts true b m k t) (sym f.1) d)
@@ -546,10 +572,10 @@ item_transaction ts i n b be fixes = record { on = λ k t d. taken d }
 
 pub item_function : (ts : List Placed) (i : ℕ) (s : Kind) → s ≡ kind_at ts i → DefinesNone ts i
     → s ≢ kind.Persistent → s ≢ kind.Tx
-    → DerivesFrom (SpellsItem ts i) (SpellsFunction ts false false i)
+    → DerivesFrom (SpellsItem ts i) (SpellsFunction ts false mark.Plain i)
 item_function ts i s be defines not_root not_tx = record { on = λ k t d. taken d }
   where
-    taken : {k : ℕ} {t : ItemTree} → SpellsItem ts i k t → SpellsFunction ts false false i k t
+    taken : {k : ℕ} {t : ItemTree} → SpellsItem ts i k t → SpellsFunction ts false mark.Plain i k t
     taken (struct_def is was opens one more close semi) = absurd (defines is was opens)
     taken (root_decl is struct was root semi) = absurd (not_root (be ∙ is))
     taken (transaction mark d) = absurd (not_tx (be ∙ mark_begins mark))
@@ -600,7 +626,7 @@ type_token : (k : Kind) → TypeBegins k → IsToken k
 type_token kind.End h = h
 type_token _ h = tt
 
-function_inside : {ts : List Placed} {tx b : Bool} {i k : ℕ} {t : ItemTree}
+function_inside : {ts : List Placed} {tx : Bool} {b : Marked} {i k : ℕ} {t : ItemTree}
     → SpellsFunction ts tx b i k t → i < length ts
 function_inside {ts} {i = i} (function (result_void is) was opens two brace three close) =
     inside_at ts i kind.Void is tt
@@ -657,7 +683,7 @@ pub ruleset signatures = (signature_empty, signature_of_void, signature_listed)
 
 pub ruleset results = (result_none, result_typed)
 
-pub ruleset marks_read = (mark_abort, mark_plain)
+pub ruleset marks_read = (mark_abort, mark_const, mark_plain)
 
 pub ruleset items_of = (led_item, item_struct, item_root, item_transaction, item_function)
 

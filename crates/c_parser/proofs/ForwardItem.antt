@@ -19,7 +19,10 @@ use Rattle.c_tree.specs.StmtSpelling.{int, pointer, SpellsAll}
 use Rattle.c_tree.specs.ItemSpelling.{SpellsField, single, array, SpellsFields, fields_end}
 use Rattle.c_tree.specs.ItemSpelling.{fields_more, SpellsParameters, parameters_last}
 use Rattle.c_tree.specs.ItemSpelling.{parameters_more, Signature, signature_none, signature_void}
-use Rattle.c_tree.specs.ItemSpelling.{signature_some, result_void, result_some, unmarked, marked}
+use Rattle.c_tree.specs.ItemSpelling.{signature_some, result_void, result_some, unmarked}
+use Rattle.c_tree.specs.ItemSpelling.{marked_abort, marked_const}
+use Rattle.c_tree.specs.declared.item.Marked.{Marked}
+use Rattle.c_tree.specs.declared.item.Marked.TheVariants as mark
 use Rattle.c_tree.specs.ItemSpelling.{SpellsFunction, function, SpellsItem, struct_def, root_decl}
 use Rattle.c_tree.specs.ItemSpelling.{transaction, plain_function, SpellsItems, items_end}
 use Rattle.c_tree.specs.ItemSpelling.{items_more, SpellsProgram}
@@ -101,7 +104,7 @@ tx_enters k kind.Int h = refl
 tx_enters k kind.Struct h = refl
 tx_enters k _ h = absurd h
 
-pub function_result : {ts : List Placed} {tx b : Bool} {i j : ℕ} {x : ItemTree}
+pub function_result : {ts : List Placed} {tx : Bool} {b : Marked} {i j : ℕ} {x : ItemTree}
     → SpellsFunction ts tx b i j x → BeginsResult (kind_at ts i)
 function_result (function (result_void is) n o s b a c) = subst BeginsResult (sym is) tt
 function_result (function (result_some (int is)) n o s b a c) = subst BeginsResult (sym is) tt
@@ -177,7 +180,7 @@ after_result {ts} {n} {p} m around name opens sig brace all close k same =
     ▸ goes ts p around none_open (Block false ∷ k) k kind.CloseBrace close tt refl
     (omega (arith, same))
 
-transaction_runs : {ts : List Placed} {b : Bool} {i j : ℕ} {x : ItemTree}
+transaction_runs : {ts : List Placed} {b : Marked} {i j : ℕ} {x : ItemTree}
     (d : SpellsFunction ts true b i j x) (around : ℕ) (k : List Want) → around ≡ weight k
     → RunsPast ts i (Result ∷ Ident ∷ OpenParameters ∷ OpenBody ∷ k) j k around (function_open d)
 transaction_runs {ts} {i = i} (function {m = m} (result_void is) name opens sig brace all close)
@@ -192,8 +195,8 @@ transaction_runs {ts} {i = i} (function {m = m} (result_some ty) name opens sig 
     (result_enters (Ident ∷ OpenParameters ∷ OpenBody ∷ k) (kind_at ts i) (typed_begins ty))
     ▸ after_result m around name opens sig brace all close k same
 
-plain_runs : {ts : List Placed} {i j : ℕ} {x : ItemTree} (d : SpellsFunction ts false false i j x)
-    (around : ℕ) (k : List Want) → around ≡ weight k
+plain_runs : {ts : List Placed} {i j : ℕ} {x : ItemTree}
+    (d : SpellsFunction ts false mark.Plain i j x) (around : ℕ) (k : List Want) → around ≡ weight k
     → RunsPast ts i (Items ∷ k) j (Items ∷ k) around (function_open d)
 plain_runs {ts} {i} (function {m = m} (result_void is) name opens sig brace all close) around k
     same =
@@ -256,12 +259,20 @@ item_runs {ts} {i} (transaction (unmarked is) f) around k same =
     (tx_enters (Ident ∷ OpenParameters ∷ OpenBody ∷ Items ∷ k) (kind_at ts (i + 1))
     (function_result f))
     (transaction_runs f around (Items ∷ k) (omega (arith, same)))
-item_runs {ts} {i} (transaction (marked is word) f) around k same =
+item_runs {ts} {i} (transaction (marked_abort is word) f) around k same =
     (goes ts i around none_open (Items ∷ k)
     (TxResult ∷ Ident ∷ OpenParameters ∷ OpenBody ∷ Items ∷ k) kind.Tx is tt refl
     (omega (arith, same))
     ▸ goes ts (i + 1) around none_open (TxResult ∷ Ident ∷ OpenParameters ∷ OpenBody ∷ Items ∷ k)
     (Result ∷ Ident ∷ OpenParameters ∷ OpenBody ∷ Items ∷ k) kind.Abort word tt refl
+    (omega (arith, same)))
+    ▸ transaction_runs f around (Items ∷ k) (omega (arith, same))
+item_runs {ts} {i} (transaction (marked_const is word) f) around k same =
+    (goes ts i around none_open (Items ∷ k)
+    (TxResult ∷ Ident ∷ OpenParameters ∷ OpenBody ∷ Items ∷ k) kind.Tx is tt refl
+    (omega (arith, same))
+    ▸ goes ts (i + 1) around none_open (TxResult ∷ Ident ∷ OpenParameters ∷ OpenBody ∷ Items ∷ k)
+    (Result ∷ Ident ∷ OpenParameters ∷ OpenBody ∷ Items ∷ k) kind.Const word tt refl
     (omega (arith, same)))
     ▸ transaction_runs f around (Items ∷ k) (omega (arith, same))
 item_runs (plain_function f) around k same = plain_runs f around k same

@@ -2,13 +2,15 @@
 -- operators so far of the open expressions, all after the token.
 use Rattle.std.specs.Prelude.{ℕ, List, [], ◌∷◌, ◌++◌, map, Option, Bool}
 use Rattle.c_lexer.specs.declared.token.Placed.{Placed}
+use Rattle.c_tree.specs.declared.item.Marked.{Marked}
 use Rattle.c_tree.specs.StmtTree.{TypeTree}
 use Rattle.c_tree.specs.ItemTree.{FieldTree, ParameterTree, ItemTree}
 use Rattle.c_tree.specs.ItemSpelling.{SpellsField, single, array, SpellsFields, fields_end}
 use Rattle.c_tree.specs.ItemSpelling.{fields_more, SpellsParameters, parameters_last}
 use Rattle.c_tree.specs.ItemSpelling.{parameters_more, Signature, signature_none, signature_void}
 use Rattle.c_tree.specs.ItemSpelling.{signature_some, ResultType, result_void, result_some}
-use Rattle.c_tree.specs.ItemSpelling.{SpellsTransaction, unmarked, marked, SpellsFunction, function}
+use Rattle.c_tree.specs.ItemSpelling.{SpellsTransaction, unmarked, marked_abort, marked_const}
+use Rattle.c_tree.specs.ItemSpelling.{SpellsFunction, function}
 use Rattle.c_tree.specs.ItemSpelling.{SpellsItem, struct_def, root_decl, transaction}
 use Rattle.c_tree.specs.ItemSpelling.{plain_function, SpellsItems, items_end, items_more}
 use Rattle.c_tree.specs.ItemSpelling.{SpellsProgram}
@@ -45,13 +47,14 @@ abbrev pub result_open : {ts : List Placed} {i j : ℕ} {r : Option TypeTree}
 result_open (result_void is) = none_open ∷ []
 result_open (result_some ty) = typed_open ty
 
-abbrev pub transaction_open : {ts : List Placed} {i j : ℕ} {rolls_back : Bool}
-    → SpellsTransaction ts i j rolls_back → List OpenParts
+abbrev pub transaction_open : {ts : List Placed} {i j : ℕ} {a : Marked}
+    → SpellsTransaction ts i j a → List OpenParts
 transaction_open (unmarked is) = none_open ∷ []
-transaction_open (marked is word) = none_open ∷ none_open ∷ []
+transaction_open (marked_abort is word) = none_open ∷ none_open ∷ []
+transaction_open (marked_const is word) = none_open ∷ none_open ∷ []
 
-abbrev pub function_open : {ts : List Placed} {tx rolls_back : Bool} {i j : ℕ} {x : ItemTree}
-    → SpellsFunction ts tx rolls_back i j x → List OpenParts
+abbrev pub function_open : {ts : List Placed} {tx : Bool} {a : Marked} {i j : ℕ} {x : ItemTree}
+    → SpellsFunction ts tx a i j x → List OpenParts
 function_open (function result name opens signature brace body close) =
     result_open result ++ (none_open ∷ one_open ∷ (signature_open signature ++ (one_open
     ∷ (in_bracket (statements_open body) ++ (none_open ∷ [])))))

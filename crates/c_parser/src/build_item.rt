@@ -14,7 +14,7 @@ ghost use Rattle.c_parser.specs.inside.Pieces.{SpellsStruct, SpellsRoot, Defines
 
 use crate::build_stmt::{block, type_name};
 use c_lexer::TokenList;
-use c_tree::item::{Field, Function, Item, Length, Parameter, RootDecl, StructDef};
+use c_tree::item::{Field, Function, Item, Length, Marked, Parameter, RootDecl, StructDef};
 use c_tree::stmt::TypeName;
 use c_tree::{Kind, kind_at, name_at, place_after, value_at};
 use std::alloc::{AllocError, Global};
@@ -163,10 +163,10 @@ fn function(
     tokens: &TokenList,
     at: u64,
     tx: bool,
-    rolls_back: bool,
+    mark: Marked,
 ) -> Result<(Item, u64), AllocError>
     ensures stays { IfOk result (λ r. at ≤ r.1) }
-    ensures fixes { IfOk result (λ r. Fixes (SpellsFunction tokens.now.tokens tx rolls_back at) r.1
+    ensures fixes { IfOk result (λ r. Fixes (SpellsFunction tokens.now.tokens tx mark at) r.1
         (item_of r.0)) }
     ensures moves { IfOk result (λ r. at < length tokens.now.tokens → at < r.1) }
 {
@@ -177,7 +177,7 @@ fn function(
     let (body, end) = block(alloc, tokens, place_after(tokens, brace))?;
     let function = Function {
         tx,
-        rolls_back,
+        mark,
         result_type,
         name,
         parameters,
@@ -186,19 +186,20 @@ fn function(
     Ok((Item::Function(function), end))
 }
 
-/// The mark of a transaction: whether it rolls back, and the place after the mark.
+/// The mark of a transaction, and the place after it.
 #[tactic(auto, using(crate::proofs::FixesItem::marks_read))]
-fn transaction(tokens: &TokenList, at: u64) -> (bool, u64)
+fn transaction(tokens: &TokenList, at: u64) -> (Marked, u64)
     ensures stays { at ≤ result.1 }
     ensures fixes { Fixes (IsFollowed tokens.now.tokens BeginsResult
         (SpellsTransaction tokens.now.tokens at)) result.1 result.0 }
     ensures moves { at < length tokens.now.tokens → at < result.1 }
 {
     let place = place_after(tokens, at);
-    if kind_at(tokens, place) == Kind::Abort {
-        return (true, place_after(tokens, place));
+    match kind_at(tokens, place) {
+        Kind::Abort => (Marked::Abort, place_after(tokens, place)),
+        Kind::Const => (Marked::Const, place_after(tokens, place)),
+        _ => (Marked::Plain, place),
     }
-    (false, place)
 }
 
 /// A struct, from its `struct` on.
@@ -253,10 +254,10 @@ fn item(alloc: Global, tokens: &TokenList, at: u64) -> Result<(Item, u64), Alloc
     match kind_at(tokens, at) {
         Kind::Persistent => root_decl(alloc, tokens, at),
         Kind::Tx => {
-            let (rolls_back, place) = transaction(tokens, at);
-            function(alloc, tokens, place, true, rolls_back)
+            let (mark, place) = transaction(tokens, at);
+            function(alloc, tokens, place, true, mark)
         }
-        _ => function(alloc, tokens, at, false, false),
+        _ => function(alloc, tokens, at, false, Marked::Plain),
     }
 }
 

@@ -511,10 +511,10 @@ impl Wants {
     fn tx_result(&mut self, kind: Kind) -> Result<Taken, AllocError>
         ensures { IfOk result (λ t. done t self.new ≡ moves_to (wants.tx_result kind) self.old) }
     {
-        if kind == Kind::Abort {
-            return self.take(&[Want::Result]);
+        match kind {
+            Kind::Abort | Kind::Const => self.take(&[Want::Result]),
+            _ => self.result_begins(kind),
         }
-        self.result_begins(kind)
     }
 
     fn parameters(&mut self, kind: Kind) -> Result<Taken, AllocError>

@@ -3,6 +3,8 @@ use Rattle.std.specs.Prelude.{ℕ, ◌+◌, ◌≡◌, List, [], ◌∷◌, Opti
 use Rattle.std.specs.Prelude.{length}
 use Rattle.c_lexer.specs.declared.token.Placed.{Placed}
 use Rattle.c_tree.specs.declared.kind.Kind.TheVariants as kind
+use Rattle.c_tree.specs.declared.item.Marked.{Marked}
+use Rattle.c_tree.specs.declared.item.Marked.TheVariants as mark
 use Rattle.c_tree.specs.Kinds.{kind_at, ident_at, value_at}
 use Rattle.c_tree.specs.StmtTree.{TypeTree, Statements}
 use Rattle.c_tree.specs.ItemTree.{FieldTree, ParameterTree, ItemTree}
@@ -54,24 +56,27 @@ pub data ResultType (ts : List Placed) : ℕ → ℕ → Option TypeTree → Typ
   result_void : {i : ℕ} → kind_at ts i ≡ kind.Void → ResultType ts i (i + 1) None
   result_some : {i j : ℕ} {t : TypeTree} → Typed ts i j t → ResultType ts i j (Some t)
 
--- the mark of a transaction; with `abort` it rolls back where it traps
-pub data SpellsTransaction (ts : List Placed) : ℕ → ℕ → Bool → Type 0 where
-  unmarked : {i : ℕ} → kind_at ts i ≡ kind.Tx → SpellsTransaction ts i (i + 1) false
-  marked : {i : ℕ} → kind_at ts i ≡ kind.Tx → kind_at ts (i + 1) ≡ kind.Abort
-      → SpellsTransaction ts i (i + 1 + 1) true
+-- the mark of a transaction: with `abort` it rolls back where it traps, and with `const` it only
+-- looks
+pub data SpellsTransaction (ts : List Placed) : ℕ → ℕ → Marked → Type 0 where
+  unmarked : {i : ℕ} → kind_at ts i ≡ kind.Tx → SpellsTransaction ts i (i + 1) mark.Plain
+  marked_abort : {i : ℕ} → kind_at ts i ≡ kind.Tx → kind_at ts (i + 1) ≡ kind.Abort
+      → SpellsTransaction ts i (i + 1 + 1) mark.Abort
+  marked_const : {i : ℕ} → kind_at ts i ≡ kind.Tx → kind_at ts (i + 1) ≡ kind.Const
+      → SpellsTransaction ts i (i + 1 + 1) mark.Const
 
 -- a function, from its result on
-pub data SpellsFunction (ts : List Placed) : Bool → Bool → ℕ → ℕ → ItemTree → Type 0 where
-  function : {tx rolls_back : Bool} {i m n p : ℕ} {r : Option TypeTree} {ps : List ParameterTree}
-      {all : Statements}
+pub data SpellsFunction (ts : List Placed) : Bool → Marked → ℕ → ℕ → ItemTree → Type 0 where
+  function : {tx : Bool} {a : Marked} {i m n p : ℕ} {r : Option TypeTree}
+      {ps : List ParameterTree} {all : Statements}
       → ResultType ts i m r → kind_at ts m ≡ kind.Name → kind_at ts (m + 1) ≡ kind.OpenRound
       → Signature ts (m + 1 + 1) n ps
       → kind_at ts n ≡ kind.OpenBrace → SpellsAll ts false (n + 1) p all
       → kind_at ts p ≡ kind.CloseBrace
-      → SpellsFunction ts tx rolls_back i (p + 1)
+      → SpellsFunction ts tx a i (p + 1)
       (tree.Function (record {
         tx = tx;
-        rolls_back = rolls_back;
+        mark = a;
         result_type = r;
         name = ident_at ts m;
         parameters = ps;
@@ -91,10 +96,10 @@ pub data SpellsItem (ts : List Placed) : ℕ → ℕ → ItemTree → Type 0 whe
       → kind_at ts (i + 1 + 1 + 1) ≡ kind.Root → kind_at ts (i + 1 + 1 + 1 + 1) ≡ kind.Semicolon
       → SpellsItem ts i (i + 1 + 1 + 1 + 1 + 1)
       (tree.Root (ident_at ts (i + 1 + 1)) (i + 1 + 1 + 1))
-  transaction : {rolls_back : Bool} {i m j : ℕ} {x : ItemTree}
-      → SpellsTransaction ts i m rolls_back → SpellsFunction ts true rolls_back m j x
+  transaction : {a : Marked} {i m j : ℕ} {x : ItemTree}
+      → SpellsTransaction ts i m a → SpellsFunction ts true a m j x
       → SpellsItem ts i j x
-  plain_function : {i j : ℕ} {x : ItemTree} → SpellsFunction ts false false i j x
+  plain_function : {i j : ℕ} {x : ItemTree} → SpellsFunction ts false mark.Plain i j x
       → SpellsItem ts i j x
 
 pub data SpellsItems (ts : List Placed) : ℕ → ℕ → List ItemTree → Type 0 where

@@ -4,6 +4,7 @@ use Rattle.c_tree.specs.declared.item.Length.{Length}
 use Rattle.c_tree.specs.declared.item.Field.{Field}
 use Rattle.c_tree.specs.declared.item.Parameter.{Parameter}
 use Rattle.c_tree.specs.declared.item.Function as written
+use Rattle.c_tree.specs.declared.item.Marked.{Marked}
 use Rattle.c_tree.specs.declared.item.Item.{Item}
 use Rattle.c_tree.specs.declared.item.Item.TheVariants as node
 use Rattle.c_tree.specs.ExprTree.{Ident, ident_of}
@@ -23,11 +24,10 @@ pub record ParameterTree : Type 0 where
   pub ty : TypeTree
   pub name : Ident
 
--- `tx` marks a transaction, and `rolls_back` one that rolls back where it traps; the result is
--- absent if it is `void`
+-- `tx` says whether it is a transaction; the result is absent if it is `void`
 pub record FunctionTree : Type 0 where
   pub tx : Bool
-  pub rolls_back : Bool
+  pub mark : Marked
   pub result_type : Option TypeTree
   pub name : Ident
   pub parameters : List ParameterTree
@@ -54,7 +54,7 @@ parameter_of p = record { ty = type_tree p.ty; name = ident_of p.name }
 abbrev pub function_tree : written.Function → FunctionTree
 function_tree f = record {
   tx = f.tx;
-  rolls_back = f.rolls_back;
+  mark = f.mark;
   result_type = option_map type_tree f.result_type;
   name = ident_of f.name;
   parameters = map parameter_of f.parameters.items;

@@ -73,6 +73,7 @@ word_kind word.Enum = kind.Other
 word_kind word.Persistent = kind.Persistent
 word_kind word.Root = kind.Root
 word_kind word.Tx = kind.Tx
+word_kind word.Const = kind.Const
 word_kind word.If = kind.If
 word_kind word.Else = kind.Else
 word_kind word.While = kind.While

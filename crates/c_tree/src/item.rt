@@ -39,13 +39,24 @@ pub struct Parameter {
     pub name: Name,
 }
 
+/// The mark of a function.
+#[derive(Clone, Copy, Debug, PartialEq, Eq)]
+pub enum Marked {
+    /// None.
+    Plain,
+    /// `abort`: where it traps it is rolled back.
+    Abort,
+    /// `const`: it only looks.
+    Const,
+}
+
 /// A function. Its result is absent if it is `void`.
 #[derive(Drop)]
 pub struct Function {
     /// Whether it is a transaction.
     pub tx: bool,
-    /// Whether a trap rolls it back.
-    pub rolls_back: bool,
+    /// The mark of a transaction; any other function is plain.
+    pub mark: Marked,
     pub result_type: Option<TypeName>,
     pub name: Name,
     pub parameters: Vec<Parameter>,

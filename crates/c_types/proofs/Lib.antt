@@ -6,3 +6,4 @@ pub mod After
 pub mod Elements
 pub mod Least
 pub mod Unbroken
+pub mod Rounds

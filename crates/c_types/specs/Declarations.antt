@@ -19,6 +19,7 @@ use Rattle.c_types.specs.Tables.{words_of_struct, is_length, declared_type}
 use Rattle.c_types.specs.Expressions.{Scope}
 use Rattle.c_types.specs.Statements.{inner_scopes, scope_declared, is_declared, type_broken}
 use Rattle.c_types.specs.Statements.{statements_broken}
+use Rattle.c_types.specs.Looking.{storing, looks_broken}
 
 abbrev pub length_broken : LengthTree → List Broken
 length_broken l = unless (is_length l.value) l.place
@@ -120,7 +121,8 @@ functions_broken t i (f ∷ fs) = whole_function_broken t i f ++ functions_broke
 -- all rules that a program breaks: in its structs, its root (exactly one) and its functions
 abbrev pub broken_of : ℕ → Tables → List Broken
 broken_of end t = structs_broken t 0 t.structs ++ (roots_broken t 0 t.roots
-    ++ (unless (is_some (slice_get t.roots 0)) end NoRoot ++ functions_broken t 0 t.functions))
+    ++ (unless (is_some (slice_get t.roots 0)) end NoRoot ++ (functions_broken t 0 t.functions
+    ++ looks_broken t (storing t) t.functions)))
 
 abbrev pub broken : ℕ → List ItemTree → List Broken
 broken end items = broken_of end (tables_of items)

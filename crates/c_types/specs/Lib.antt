@@ -8,5 +8,6 @@ pub mod Views
 pub mod Fault
 pub mod Shapes
 pub mod Transactions
+pub mod Looking
 pub mod LeastLaw
 pub mod inside

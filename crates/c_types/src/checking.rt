@@ -11,6 +11,7 @@ ghost use Rattle.c_types.specs.Views.{tables_in};
 use crate::broken::{Broken, Rule, expect};
 use crate::declarations::{functions, roots, structs};
 use crate::fault::TypeFault;
+use crate::looking::looks;
 use crate::program::Program;
 use crate::typed::Typed;
 use c_tree::Ast;
@@ -79,5 +80,6 @@ fn examine(
     structs(program, program.structs(), found);
     roots(program, program.roots(), found);
     expect(found, program.has_root(), end, Rule::NoRoot);
-    functions(alloc, program, program.functions(), found)
+    functions(alloc, program, program.functions(), found)?;
+    looks(alloc, program, found)
 }

@@ -10,6 +10,7 @@ mod expressions;
 mod fault;
 mod laws;
 mod layout;
+mod looking;
 mod names;
 mod program;
 mod rules;

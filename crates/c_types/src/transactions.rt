@@ -3,19 +3,19 @@
 ghost use Rattle.std.specs.Prelude.{◌≡◌, IfOk, map};
 ghost use Rattle.c_tree.specs.ItemTree.{function_tree};
 ghost use Rattle.c_types.specs.Shapes.{transactions_in};
-ghost use Rattle.c_types.specs.Transactions.{entry_of};
+ghost use Rattle.c_types.specs.Transactions.{entry_of, is_abort, is_const};
 
 use crate::shapes::copied;
-use c_tree::item::Function;
+use c_tree::item::{Function, Marked};
 use nvm_base::Text;
 use std::alloc::{AllocError, Global};
 
-/// A transaction's name, the number of its parameters, and whether it rolls back where it traps.
+/// A transaction's name, the number of its parameters, and its mark.
 #[derive(Drop)]
 pub struct Transaction {
     pub name: Text,
     pub parameters: u64,
-    pub rolls_back: bool,
+    pub mark: Marked,
 }
 
 /// The transactions among the functions, in the order of the text.
@@ -40,6 +40,26 @@ fn entry(alloc: Global, function: &Function) -> Result<Transaction, AllocError>
     Ok(Transaction {
         name,
         parameters,
-        rolls_back: function.rolls_back,
+        mark: function.mark,
     })
+}
+
+/// Whether a transaction with this mark rolls back where it traps.
+pub(crate) fn is_abort(mark: Marked) -> bool
+    ensures { result ≡ is_abort mark }
+{
+    match mark {
+        Marked::Abort => true,
+        Marked::Plain | Marked::Const => false,
+    }
+}
+
+/// Whether a function with this mark only looks.
+pub(crate) fn is_const(mark: Marked) -> bool
+    ensures { result ≡ is_const mark }
+{
+    match mark {
+        Marked::Const => true,
+        Marked::Plain | Marked::Abort => false,
+    }
 }

@@ -5,12 +5,12 @@ ghost use Rattle.std.specs.Prelude.{Some};
 ghost use Rattle.c_tree.specs.ItemTree.{FunctionTree};
 ghost use Rattle.c_types.specs.Tables.{index_of};
 ghost use Rattle.c_types.specs.Shapes.{shapes_of, transactions_of};
-ghost use Rattle.c_types.specs.Transactions.{entry_of};
+ghost use Rattle.c_types.specs.Transactions.{entry_of, is_abort, is_const};
 ghost use Rattle.c_types.specs.declared.transactions.Transaction as kept;
 
 use crate::program::Program;
 use crate::shapes::program_shapes;
-use crate::transactions::{Transaction, transactions};
+use crate::transactions::{Transaction, is_abort, is_const, transactions};
 use c_tree::Ast;
 use pool_map::Shapes;
 use std::alloc::{AllocError, Global};
@@ -110,10 +110,20 @@ impl Typed {
     pub fn rolls_back(&self, tx: u64) -> bool
         requires from { 1 ≤ tx }
         requires to { tx ≤ length (transactions_of self.now) }
-        ensures { Some result ≡ option_map (λ f. f.rolls_back)
+        ensures { Some result ≡ option_map (λ f. is_abort f.mark)
             (slice_get (transactions_of self.now) (tx - 1)) }
     {
-        self.transactions[(tx - 1) as usize].rolls_back
+        is_abort(self.transactions[(tx - 1) as usize].mark)
+    }
+
+    /// Whether a transaction only looks: it is marked `const`.
+    pub fn looks(&self, tx: u64) -> bool
+        requires from { 1 ≤ tx }
+        requires to { tx ≤ length (transactions_of self.now) }
+        ensures { Some result ≡ option_map (λ f. is_const f.mark)
+            (slice_get (transactions_of self.now) (tx - 1)) }
+    {
+        is_const(self.transactions[(tx - 1) as usize].mark)
     }
 
     /// The number of numbered structs.

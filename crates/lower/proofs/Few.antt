@@ -65,6 +65,6 @@ pub few_functions : (tree : Program) → breaks tree ≡ []
     → AllByRecursion TakesFew (tables_of (tree_of tree)).functions
 few_functions tree e =
     let t : Tables = tables_of (tree_of tree) in
-    few_from t 0 t.functions (none_right (unless (is_some (slice_get t.roots 0)) (length tree.lines)
-    NoRoot) (functions_broken t 0 t.functions)
-    (none_right (roots_broken t 0 t.roots) _ (none_right (structs_broken t 0 t.structs) _ e)))
+    few_from t 0 t.functions (none_left (functions_broken t 0 t.functions) _
+    (none_right (unless (is_some (slice_get t.roots 0)) (length tree.lines) NoRoot) _
+    (none_right (roots_broken t 0 t.roots) _ (none_right (structs_broken t 0 t.structs) _ e))))

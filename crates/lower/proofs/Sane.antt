@@ -239,27 +239,21 @@ pub broken_functions : (tree : Program) → breaks tree ≡ []
     → functions_broken (tables_of (tree_of tree)) 0 (tables_of (tree_of tree)).functions ≡ []
 broken_functions tree e =
     let t : Tables = tables_of (tree_of tree) in
-    none_right (unless (is_some (slice_get t.roots 0)) (length tree.lines) NoRoot)
-    (functions_broken t 0 t.functions)
-    (none_right (roots_broken t 0 t.roots) _ (none_right (structs_broken t 0 t.structs) _ e))
+    none_left (functions_broken t 0 t.functions) _
+    (none_right (unless (is_some (slice_get t.roots 0)) (length tree.lines) NoRoot) _
+    (none_right (roots_broken t 0 t.roots) _ (none_right (structs_broken t 0 t.structs) _ e)))
 
 pub sane : (tree : Program) → breaks tree ≡ [] → IsSane (tables_of (tree_of tree))
 sane tree e =
     let t : Tables = tables_of (tree_of tree) in
     let e1 : structs_broken t 0 t.structs ≡ [] = none_left (structs_broken t 0 t.structs) _ e in
-    let l1 : roots_broken t 0 t.roots
-    ++ (unless (is_some (slice_get t.roots 0)) (length tree.lines) NoRoot ++ functions_broken t 0
-    t.functions) ≡ [] = none_right (structs_broken t 0 t.structs) _ e in
+    let l1 = none_right (structs_broken t 0 t.structs) _ e in
     let e2 : roots_broken t 0 t.roots ≡ [] = none_left (roots_broken t 0 t.roots) _ l1 in
-    let l2 : unless (is_some (slice_get t.roots 0)) (length tree.lines) NoRoot ++ functions_broken t
-    0 t.functions ≡ [] = none_right (roots_broken t 0 t.roots) _ l1 in
+    let l2 = none_right (roots_broken t 0 t.roots) _ l1 in
     let e3 : is_some (slice_get t.roots 0) ≡ true =
     holds (is_some (slice_get t.roots 0)) (length tree.lines) NoRoot
-    (none_left (unless (is_some (slice_get t.roots 0)) (length tree.lines) NoRoot)
-    (functions_broken t 0 t.functions) l2) in
-    let e4 : functions_broken t 0 t.functions ≡ [] =
-    none_right (unless (is_some (slice_get t.roots 0)) (length tree.lines) NoRoot)
-    (functions_broken t 0 t.functions) l2 in
+    (none_left (unless (is_some (slice_get t.roots 0)) (length tree.lines) NoRoot) _ l2) in
+    let e4 : functions_broken t 0 t.functions ≡ [] = broken_functions tree e in
     record {
       structs = omega (arith, structs_few t 0 t.structs (omega arith) e1);
       functions = omega (arith, functions_few t 0 t.functions (omega arith) e4);

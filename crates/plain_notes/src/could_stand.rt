@@ -6,13 +6,14 @@ use std::alloc::{AllocError, Global};
 pub const NAMES: [&str; 2] = ["name", "1"];
 
 /// The words of the language, which are no names.
-pub const WORDS: [&str; 18] = [
+pub const WORDS: [&str; 19] = [
     "int64_t",
     "void",
     "struct",
     "persistent",
     "root",
     "tx",
+    "const",
     "if",
     "else",
     "while",

@@ -45,7 +45,7 @@ const RESERVED: [(&str, &str); 25] = [
     ("unsigned", NARROW_NOTE),
     (
         "const",
-        "leave `const` out: the language has no marks on types",
+        "leave `const` out: only `tx` takes it, and the language has no marks on types",
     ),
     (
         "volatile",
@@ -372,6 +372,12 @@ fn at_top(near: &Spelled<'_>) -> Option<&'static str> {
     if is(here, "abort") && is(last, "abort") {
         return Some("one `abort` is enough");
     }
+    if is_one(here, &["abort", "const"]) && is_one(last, &["abort", "const"]) {
+        return Some("a transaction has one mark: `abort` or `const`");
+    }
+    if is(here, "const") && !is(last, "tx") {
+        return Some("`const` follows `tx`: write `tx const int64_t f() { .. }`");
+    }
     if is(here, "abort") {
         return Some("`abort` follows `tx`: write `tx abort int64_t f() { .. }`");
     }
@@ -413,7 +419,7 @@ fn by_tx(near: &Spelled<'_>) -> Option<&'static str> {
 }
 
 const MARK_NOTE: &str =
-    "`tx` takes no mark but `abort`: a trap in `tx abort int64_t f()` restores the pool";
+    "`tx` takes the mark `abort`, by which a trap restores the pool, or `const`, which only looks";
 
 const ROOT_NOTE: &str = "the root is declared once: write `persistent struct NAME root;`";
 

@@ -261,6 +261,14 @@ fn count(alloc: Global, limit: LimitKind, value: u64) -> Result<String, AllocErr
 
 fn bad_tx(alloc: Global, near: &Spelled<'_>, name: &str) -> Result<Told, AllocError> {
     let last = near.before(1);
+    if last == b"int64_t".as_slice() && near.before(2) == b"const".as_slice() && takes_ints(near) {
+        let what = format!(in alloc; "`{name}` is marked `const`, and stores or calls what does")?;
+        return noted(
+            alloc,
+            what.as_str(),
+            "a `tx const` only looks: leave `const` out where it stores",
+        );
+    }
     if is_one(last, &TYPE_ENDS) {
         let what = format!(in alloc; "the transaction `{name}` has a type that no script gives")?;
         return noted(
@@ -275,6 +283,19 @@ fn bad_tx(alloc: Global, near: &Spelled<'_>, name: &str) -> Result<Told, AllocEr
         what.as_str(),
         "write a function without `tx` that both call",
     )
+}
+
+/// Whether the parameters of the function whose name stands there are all ints.
+fn takes_ints(near: &Spelled<'_>) -> bool {
+    for place in 2..100 {
+        if near.after(place) == b")".as_slice() {
+            return true;
+        }
+        if near.after(place) == b"*".as_slice() {
+            return false;
+        }
+    }
+    true
 }
 
 /// The tokens with which a function's type ends.

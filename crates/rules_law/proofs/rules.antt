@@ -3,6 +3,8 @@ pub mod Fits
 pub mod Given
 pub mod Kept
 pub mod Own
+pub mod Stored
+pub mod Storing
 pub mod Listed
 pub mod Found
 pub mod Put

@@ -72,7 +72,7 @@ transaction_stands (x ∷ fs) i f e =
     by_test true (suc j) rest e = rest j e
     by_test false i rest e = rest i e
 
-numbered_stands : (fs : List FunctionTree) (number : ℕ) (f : FunctionTree)
+pub numbered_stands : (fs : List FunctionTree) (number : ℕ) (f : FunctionTree)
     → transaction_in number fs ≡ Some f → (g : ℕ) × (slice_get fs g ≡ Some f)
 numbered_stands fs zero f e = absurd (none-some f e)
 numbered_stands fs (suc i) f e = transaction_stands fs i f e

@@ -10,3 +10,4 @@ pub mod Statements
 pub mod Checks
 pub mod Ticks
 pub mod Laws
+pub mod Looks

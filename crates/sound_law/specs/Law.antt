@@ -1,6 +1,7 @@
 -- A checked program never asks for what isn't there. So where the meaning gives a value of its own,
 -- only to be total, that value is never met.
 use Rattle.std.specs.Prelude.{ℕ, ℤ, ◌≡◌, List, [], length, Some}
+use Rattle.c_tree.specs.declared.item.Marked.TheVariants as mark
 use Rattle.c_tree.specs.ItemTree.{FunctionTree}
 use Rattle.c_tree.specs.Program.{Program, tree_of}
 use Rattle.c_types.specs.Tables.{Tables, tables_of}
@@ -10,6 +11,7 @@ use Rattle.pool_map.specs.declared.shapes.Shapes.{Shapes}
 use Rattle.pool_map.specs.declared.trap.TrapKind.TheVariants.{LogFull}
 use Rattle.pool_map.specs.PoolMap.{PoolMap}
 use Rattle.pool_map.specs.PoolFits.{PoolFits}
+use Rattle.rules_law.specs.typed.Programs.{IsWellTyped}
 use Rattle.c_meaning.specs.Meaning.{calls_of}
 use Rattle.c_meaning.specs.Transaction.{Outcome, Done, Trap, transaction, transaction_means}
 use Rattle.sound_law.specs.Statements.{FunctionFinds, CallFinds}
@@ -39,3 +41,15 @@ SoundLaw = (tree : Program) → breaks tree ≡ [] → (number : ℕ) (f : Funct
 abbrev pub NeverFullLaw : Type 0
 NeverFullLaw = (t : Tables) (p : PoolMap) (number : ℕ) (args : List ℤ) (ticks : ℕ)
     → transaction_means t p number args ticks ≡ Trap LogFull → ⊥
+
+-- the pool that is left is this one; after a trap the meaning says nothing of it
+abbrev pub LeavesSame : PoolMap → Outcome → Type 0
+LeavesSame before (Done p v) = p ≡ before
+LeavesSame before (Trap k) = Unit {0}
+
+-- A transaction of a well typed program that is marked `const` leaves the pool as it was.
+abbrev pub LooksLaw : Type 0
+LooksLaw = (t : Tables) → IsWellTyped t → (number : ℕ) (f : FunctionTree)
+    → transaction t number ≡ Some f → f.mark ≡ mark.Const
+    → (p : PoolMap) (args : List ℤ) (ticks : ℕ)
+    → LeavesSame p (transaction_means t p number args ticks)

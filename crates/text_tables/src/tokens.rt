@@ -105,18 +105,18 @@ const TEXTS: [(&str, &str); 44] = [
         "1: _ _a a_1 A9 tx_ xtx int64_t1 end",
     ),
     (
-        "int64_t void struct enum persistent root tx if else while do for break continue return \
-            NULL pm_new pm_free abort",
-        "1: [Int64] [Void] [Struct] [Enum] [Persistent] [Root] [Tx] [If] [Else] [While] [Do] \
-            [For] [Break] [Continue] [Return] [Null] [PmNew] [PmFree] [Abort] end",
+        "int64_t void struct enum persistent root tx const if else while do for break continue \
+            return NULL pm_new pm_free abort",
+        "1: [Int64] [Void] [Struct] [Enum] [Persistent] [Root] [Tx] [Const] [If] [Else] [While] \
+            [Do] [For] [Break] [Continue] [Return] [Null] [PmNew] [PmFree] [Abort] end",
     ),
     (
-        "auto case char const default double extern float goto inline int long register restrict \
+        "auto case char default double extern float goto inline int long register restrict \
             short signed sizeof static switch typedef union unsigned volatile null main",
         "1: [reserved] [reserved] [reserved] [reserved] [reserved] [reserved] [reserved] \
             [reserved] [reserved] [reserved] [reserved] [reserved] [reserved] [reserved] \
             [reserved] [reserved] [reserved] [reserved] [reserved] [reserved] [reserved] \
-            [reserved] [reserved] null main end",
+            [reserved] null main end",
     ),
     ("a // b\nc", "1: a 2: c end"),
     ("a // b", "1: a end"),

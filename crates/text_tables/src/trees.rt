@@ -3,7 +3,7 @@
 use crate::tree_text::show_bodies;
 use c_lexer::tokens;
 use c_parser::parse;
-use c_tree::item::Item;
+use c_tree::item::{Item, Marked};
 use std::alloc::{AllocError, Global};
 use std::test::Fail;
 
@@ -109,13 +109,18 @@ fn refused_tokens(rt: HostRuntime) -> Result<(), Fail> {
     Ok(())
 }
 
-/// Texts, and for each of their functions `p` where it is plain, `t` where it is a transaction, and
-/// `r` where it is one that rolls back.
-const MARKED: [(&str, &str); 8] = [
+/// Texts, and for each of their functions `p` where it is plain, `t` where it is a transaction, `r`
+/// where it is one that rolls back, and `c` where it is one that only looks.
+const MARKED: [(&str, &str); 10] = [
     ("", ""),
     ("void f() {}", "p"),
     ("tx void f() {}", "t"),
     ("tx abort void f() {}", "r"),
+    ("tx const void f() {}", "c"),
+    (
+        "tx const struct S *f() {} tx const int64_t g() {} tx int64_t h() {}",
+        "cct",
+    ),
     (
         "tx abort int64_t f() {} tx int64_t g() {} int64_t h() {}",
         "rtp",
@@ -145,11 +150,12 @@ fn marks_of(alloc: Global, text: &str) -> Result<String, AllocError> {
     let mut marks = String::new(alloc);
     for item in ast.items() {
         if let Item::Function(function) = item {
-            marks.push_str(match (function.tx, function.rolls_back) {
-                (false, false) => "p",
-                (true, false) => "t",
-                (true, true) => "r",
-                (false, true) => "?",
+            marks.push_str(match (function.tx, function.mark) {
+                (false, Marked::Plain) => "p",
+                (true, Marked::Plain) => "t",
+                (true, Marked::Abort) => "r",
+                (true, Marked::Const) => "c",
+                (false, _) => "?",
             })?;
         }
     }

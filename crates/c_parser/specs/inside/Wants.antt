@@ -223,6 +223,7 @@ result_begins k = type_begins k
 -- the result of a transaction, after its mark
 abbrev pub tx_result : Kind → WantMove
 tx_result kind.Abort = Take (Result ∷ [])
+tx_result kind.Const = Take (Result ∷ [])
 tx_result k = result_begins k
 
 abbrev pub open_parameters : Kind → WantMove

@@ -1,16 +1,17 @@
 -- What a row gives for a part is among the rules that `c_types` lists for it.
 use Rattle.std.proofs.Common.{◌≡◌, ◌≢◌, ℕ, ◌<◌, inl, Bool, true, false, List, [], ◌++◌}
-use Rattle.std.proofs.Common.{length, refl, sym, subst, arith}
+use Rattle.std.proofs.Common.{length, refl, sym, ap, subst, arith}
 use Rattle.std.specs.Prelude.{◌&&◌, ◌||◌, not, nat_eq, nat_le, is_some, slice_get, None}
 use Rattle.std.specs.Prelude.{Some}
 use Rattle.std.specs.Option.{option_map_or}
 use Rattle.std.specs.Int.{w64, cast_unsigned}
 use Rattle.std.proofs.lemmas.Bool.Decides.{nat_tests}
-use Rattle.std.proofs.lemmas.Bool.{or_from, and_left, and_right, false≢true}
+use Rattle.std.proofs.lemmas.Bool.{or_from, not_from_true, and_left, and_right, false≢true}
 use Rattle.c_tree.specs.declared.expr.BinaryOp.TheVariants as binary
 use Rattle.c_tree.specs.ExprTree.{Arguments, Ident}
 use Rattle.c_tree.specs.StmtTree.{TypeTree, InitialTree, DeclarationTree}
 use Rattle.c_tree.specs.ItemTree.{FieldTree, FunctionTree, LengthTree, ParameterTree}
+use Rattle.c_tree.specs.declared.item.Marked.TheVariants as mark
 use Rattle.c_types.specs.declared.value_type.ValueType.{ValueType}
 use Rattle.c_types.specs.declared.value_type.ValueType.TheVariants as answered
 use Rattle.c_types.specs.declared.value_type.Kind.{Kind}
@@ -32,19 +33,23 @@ use Rattle.c_types.specs.Expressions.{is_indexed, unindexed, kind_of, type_of, c
 use Rattle.c_types.specs.Expressions.{call_broken, argument_count, parameter_type, parameters_of}
 use Rattle.c_types.specs.Statements.{is_declared, is_target}
 use Rattle.c_types.specs.Declarations.{length_broken, all_ints, is_transaction}
+use Rattle.c_types.specs.Transactions.{is_const}
+use Rattle.c_types.specs.Looking.{statements_store, storing, look_broken}
 use Rattle.rules_law.specs.typed.Types.{PointerTo, IsWritten}
 use Rattle.rules_law.proofs.typed.Programs.{root_first}
 use Rattle.rules_law.specs.rules.Part.{Part}
 use Rattle.rules_law.specs.rules.Part as part
 use Rattle.rules_law.specs.rules.Given.{Types}
+use Rattle.rules_law.specs.rules.Stores.{Stores}
 use Rattle.rules_law.specs.rules.Rules.{Breaks}
 use Rattle.rules_law.specs.rules.Rules as row
 use Rattle.rules_law.proofs.rules.Among.{Told, among_left, among_right, unless_told}
 use Rattle.rules_law.proofs.rules.Fits.{number_no, pointer_no}
 use Rattle.rules_law.proofs.rules.Fits.{operands_no, operand_no, gift_no, assignment_no, array_no}
-use Rattle.rules_law.proofs.rules.Own.{own, own_initial, own_local, own_field}
+use Rattle.rules_law.proofs.rules.Own.{own, own_initial, own_local, own_field, own_function}
 use Rattle.rules_law.proofs.rules.Own.{not_le, not_same, first_not}
 use Rattle.rules_law.proofs.rules.Own.{among_no_int}
+use Rattle.rules_law.proofs.rules.Storing.{stores_to}
 use Rattle.rules_law.proofs.rules.Given.{written_is}
 use Rattle.rules_law.proofs.rules.Kept.{given_kind, given_type, gives_is, given_at}
 
@@ -124,13 +129,27 @@ count_functions i f = unless (not (nat_eq i 1024)) f.name.place (TooBig limit.Fu
 abbrev of_tx : Tables → FunctionTree → List Broken
 of_tx t f = unless (not f.tx || is_transaction t f) f.name.place BadTx
 
+function_listed : (t : Tables) (i : ℕ) (f : FunctionTree) (b : Broken)
+    → IsAmong b (own_function t i f) → IsAmong b (own t (part.Function i f))
+function_listed t i f b h = among_left (own_function t i f) (look_broken t (storing t) f) b h
+
 bad_listed : (t : Tables) (i : ℕ) (f : FunctionTree) → f.tx ≡ true → is_transaction t f ≡ false
     → IsAmong (Told BadTx f.name.place) (own t (part.Function i f))
 bad_listed t i f tx e =
-    among_right (again_function t i f) (count_functions i f ++ of_tx t f) (Told BadTx f.name.place)
+    function_listed t i f (Told BadTx f.name.place)
+    (among_right (again_function t i f) (count_functions i f ++ of_tx t f) (Told BadTx f.name.place)
     (among_right (count_functions i f) (of_tx t f) (Told BadTx f.name.place)
     (unless_told (not f.tx || is_transaction t f) f.name.place BadTx
-    (or_from (not f.tx) (is_transaction t f) (rw tx refl) e)))
+    (or_from (not f.tx) (is_transaction t f) (rw tx refl) e))))
+
+const_listed : (t : Tables) (i : ℕ) (f : FunctionTree) → f.mark ≡ mark.Const → Stores t f
+    → IsAmong (Told BadTx f.name.place) (own t (part.Function i f))
+const_listed t i f is h =
+    let stores : Bool = statements_store t (storing t) f.body in
+    among_right (own_function t i f) (look_broken t (storing t) f) (Told BadTx f.name.place)
+    (unless_told (not (is_const f.mark) || not stores) f.name.place BadTx
+    (or_from (not (is_const f.mark)) (not stores) (not_from_true (is_const f.mark)
+    (ap is_const is)) (not_from_true stores (stores_to t f h))))
 
 no_result : (t : Tables) (f : FunctionTree) → f.result_type ≡ None → is_transaction t f ≡ false
 no_result t f none = and_left (option_map_or (λ ty. is_int (declared_type t ty))
@@ -200,9 +219,10 @@ listed {t} (row.struct_again {i = i} {s = s} other) =
     (unless_told (is_first (struct_named t s.name.text) i) s.name.place Twice
     (first_not (struct_named t s.name.text) i other))
 listed {t} (row.function_again {i = i} {f = f} other) =
-    among_left (again_function t i f) (count_functions i f ++ of_tx t f) (Told Twice f.name.place)
+    function_listed t i f (Told Twice f.name.place)
+    (among_left (again_function t i f) (count_functions i f ++ of_tx t f) (Told Twice f.name.place)
     (unless_told (is_first (index_of f.name.text (function_names t)) i) f.name.place Twice
-    (first_not (index_of f.name.text (function_names t)) i other))
+    (first_not (index_of f.name.text (function_names t)) i other)))
 listed (row.field_again {s = s} {j = j} {f = f} other) =
     among_left (unless (is_first (index_of f.name.text (field_names s)) j) f.name.place Twice)
     (option_map_or length_broken f.len []) (Told Twice f.name.place)
@@ -320,11 +340,12 @@ listed {t} (row.many_structs {s = s}) =
     (Told (TooBig limit.Structs 256) s.name.place)
     (unless_told (not (nat_eq 255 255)) s.name.place (TooBig limit.Structs 256) refl))
 listed {t} (row.many_functions {f = f}) =
-    among_right (again_function t 1024 f) (count_functions 1024 f ++ of_tx t f)
+    function_listed t 1024 f (Told (TooBig limit.Functions 1025) f.name.place)
+    (among_right (again_function t 1024 f) (count_functions 1024 f ++ of_tx t f)
     (Told (TooBig limit.Functions 1025) f.name.place)
     (among_left (count_functions 1024 f) (of_tx t f)
     (Told (TooBig limit.Functions 1025) f.name.place)
-    (unless_told (not (nat_eq 1024 1024)) f.name.place (TooBig limit.Functions 1025) refl))
+    (unless_told (not (nat_eq 1024 1024)) f.name.place (TooBig limit.Functions 1025) refl)))
 listed (row.many_parameters {s = s} {q = q}) =
     among_left (unless (not (nat_eq 22 22)) q.name.place (TooBig limit.Parameters 23))
     (unless (not (is_declared q.name.text s)) q.name.place Twice)
@@ -338,6 +359,7 @@ listed {t} (row.tx_result {i = i} {f = f} ty tx is never) =
 listed {t} (row.tx_parameter {i = i} {f = f} j q tx is never) =
     bad_listed t i f tx (no_int_parameter t f j q is (number_no (IsWritten t q.ty)
     (declared_type t q.ty) (written_is t q.ty) never))
+listed {t} (row.const_stores {i = i} {f = f} is h) = const_listed t i f is h
 listed {t} (row.tx_called {used = used} {name = name} {all = all} f is tx) =
     call_listed t used name all f (Told BadTx name.place) is
     (tx_listed used f (argument_count all) name.place tx)

@@ -15,6 +15,8 @@ use Rattle.c_tree.specs.ExprTree as expr
 use Rattle.c_tree.specs.StmtTree.{SimpleTree, TypeTree, InitialTree, DeclarationTree}
 use Rattle.c_tree.specs.StmtTree as stmt
 use Rattle.c_tree.specs.ItemTree.{FieldTree, FunctionTree, LengthTree, ParameterTree}
+use Rattle.c_tree.specs.declared.item.Marked.{Marked}
+use Rattle.c_tree.specs.declared.item.Marked.TheVariants as mark
 use Rattle.c_types.specs.declared.value_type.ValueType.{ValueType}
 use Rattle.c_types.specs.declared.value_type.ValueType.TheVariants as answered
 use Rattle.c_types.specs.declared.value_type.Kind.{Kind}
@@ -39,6 +41,8 @@ use Rattle.c_types.specs.Expressions.{parameters_of, parameter_type, argument_co
 use Rattle.c_types.specs.Statements.{is_declared, is_target}
 use Rattle.c_types.specs.Declarations.{length_broken, struct_broken, root_item_broken, all_ints}
 use Rattle.c_types.specs.Declarations.{is_transaction}
+use Rattle.c_types.specs.Transactions.{is_const}
+use Rattle.c_types.specs.Looking.{statements_store, storing, look_broken}
 use Rattle.rules_law.proofs.typed.Programs.{first_at}
 use Rattle.rules_law.specs.typed.Types.{PointerTo, IsWritten}
 use Rattle.rules_law.specs.rules.Part.{Part}
@@ -52,6 +56,7 @@ use Rattle.rules_law.proofs.rules.Fits.{no_number, no_pointer}
 use Rattle.rules_law.proofs.rules.Fits.{no_operands, no_operand}
 use Rattle.rules_law.proofs.rules.Fits.{no_gift, no_assignment, no_array}
 use Rattle.rules_law.proofs.rules.Given.{written_is}
+use Rattle.rules_law.proofs.rules.Storing.{stores_from}
 use Rattle.rules_law.proofs.rules.Kept.{gives_is, type_given_of, array_at}
 
 -- the rules that an expression breaks, without those of its parts
@@ -114,7 +119,7 @@ abbrev pub own : Tables → Part → List Broken
 own t (part.Whole end) = unless (is_some (slice_get t.roots 0)) end NoRoot
 own t (part.Struct i s) = struct_broken t i s
 own t (part.Root i r) = root_item_broken t i r
-own t (part.Function i f) = own_function t i f
+own t (part.Function i f) = own_function t i f ++ look_broken t (storing t) f
 own t (part.Field s j f) = own_field s j f
 own t (part.Parameter s i q) = own_parameter s i q
 own t (part.PointerTo name) = pointer_broken t name
@@ -505,13 +510,29 @@ rows_function t i f b h =
     (or_parts (not f.tx) (is_transaction t f) n).0) refl
     (or_parts (not f.tx) (is_transaction t f) n).1)))
 
+const_is : (a : Marked) → is_const a ≡ true → a ≡ mark.Const
+const_is mark.Plain e = absurd (false≢true e)
+const_is mark.Abort e = absurd (false≢true e)
+const_is mark.Const e = refl
+
+rows_look : (t : Tables) (i : ℕ) (f : FunctionTree) (b : Broken)
+    → IsAmong b (look_broken t (storing t) f) → Breaks t (part.Function i f) b.rule b.place
+rows_look t i f b h =
+    let stores : Bool = statements_store t (storing t) f.body in
+    unless_of (Breaks t (part.Function i f)) b (not (is_const f.mark) || not stores) f.name.place
+    BadTx h
+    (λ n. let both = or_parts (not (is_const f.mark)) (not stores) n in
+    row.const_stores (const_is f.mark (not-false (is_const f.mark) both.0))
+    (stores_from t f (not-false stores both.1)))
+
 pub rows : (t : Tables) (p : Part) (b : Broken) → IsAmong b (own t p) → Breaks t p b.rule b.place
 rows t (part.Whole end) b h =
     unless_of (Breaks t (part.Whole end)) b (is_some (slice_get t.roots 0)) end NoRoot h
     (λ n. row.no_root (no_roots t.roots n))
 rows t (part.Struct i s) b h = rows_struct t i s b h
 rows t (part.Root i r) b h = rows_root t i r b h
-rows t (part.Function i f) b h = rows_function t i f b h
+rows t (part.Function i f) b h = either (own_function t i f) (look_broken t (storing t) f) b h
+    (λ h. rows_function t i f b h) (λ h. rows_look t i f b h)
 rows t (part.Field s j f) b h = rows_field t s j f b h
 rows t (part.Parameter s i q) b h = rows_parameter t s i q b h
 rows t (part.PointerTo name) b h = rows_pointer t name b (struct_named t name.text) refl h

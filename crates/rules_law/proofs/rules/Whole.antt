@@ -15,6 +15,7 @@ use Rattle.c_types.specs.Declarations.{whole_struct_broken, structs_broken, root
 use Rattle.c_types.specs.Declarations.{roots_broken, parameters_broken, scopes_after_parameters}
 use Rattle.c_types.specs.Declarations.{type_given, function_broken, body_broken}
 use Rattle.c_types.specs.Declarations.{whole_function_broken, functions_broken, broken_of}
+use Rattle.c_types.specs.Looking.{storing, look_broken, looks_broken}
 use Rattle.rules_law.specs.rules.Part.{Part}
 use Rattle.rules_law.specs.rules.Part as part
 use Rattle.rules_law.specs.rules.Stands.{InType, StandsIn}
@@ -48,6 +49,17 @@ functions_each : (t : Tables) (i : ℕ) (fs : List FunctionTree)
 functions_each t i [] = refl
 functions_each t i (f ∷ fs) =
     ap (λ rest. whole_function_broken t i f ++ rest) (functions_each t (i + 1) fs)
+
+looks_each : (t : Tables) (i : ℕ) (fs : List FunctionTree)
+    → looks_broken t (storing t) fs ≡ each (λ (i : ℕ) (f : FunctionTree).
+    look_broken t (storing t) f) i fs
+looks_each t i [] = refl
+looks_each t i (f ∷ fs) =
+    ap (λ rest. look_broken t (storing t) f ++ rest) (looks_each t (i + 1) fs)
+
+-- the rules of functions: each with its body, and then those that are marked `const`
+abbrev of_functions : Tables → List Broken
+of_functions t = functions_broken t 0 t.functions ++ looks_broken t (storing t) t.functions
 
 -- a rule that is broken at a field of a struct is listed
 found_field : (end : ℕ) (t : Tables) (i j : ℕ) (s : StructTree) (f : FieldTree) (b : Broken)
@@ -87,7 +99,11 @@ found_function end t i f b is h =
     either (function_broken t i f) (body_broken t f) b h
     (λ h. either result (own_function t i f) b h
     (λ h. result_found end t i f b f.result_type is refl h)
-    (λ h. (part.Function i f, at.function i is, h)))
+    (λ h. (
+      part.Function i f,
+      at.function i is,
+      among_left (own_function t i f) (look_broken t (storing t) f) b h,
+    )))
     (λ h. either parameters body b h
     (λ h. further t b (found_parameters t (inner_scopes []) 0 f.parameters b h)
     (λ p e. at.parameters i is e))
@@ -101,19 +117,28 @@ found_whole end t b h =
     let two = roots_broken t 0 t.roots in
     let three = unless (is_some (slice_get t.roots 0)) end NoRoot in
     let four = functions_broken t 0 t.functions in
-    either one (two ++ (three ++ four)) b h
+    let five = looks_broken t (storing t) t.functions in
+    either one (two ++ (three ++ (four ++ five))) b h
     (λ h. each_of (whole_struct_broken t) t.structs b
     (subst (λ xs. IsAmong b xs) (structs_each t 0 t.structs) h)
     (λ i s is h. found_struct end t i s b is h))
-    (λ h. either two (three ++ four) b h
+    (λ h. either two (three ++ (four ++ five)) b h
     (λ h. each_of (root_item_broken t) t.roots b
     (subst (λ xs. IsAmong b xs) (roots_each t 0 t.roots) h)
     (λ i r is h. (part.Root i r, at.root i is, h)))
-    (λ h. either three four b h
+    (λ h. either three (four ++ five) b h
     (λ h. (part.Whole end, at.whole, h))
+    (λ h. either four five b h
     (λ h. each_of (whole_function_broken t) t.functions b
     (subst (λ xs. IsAmong b xs) (functions_each t 0 t.functions) h)
-    (λ i f is h. found_function end t i f b is h))))
+    (λ i f is h. found_function end t i f b is h))
+    (λ h. each_of (λ (i : ℕ) (f : FunctionTree). look_broken t (storing t) f) t.functions b
+    (subst (λ xs. IsAmong b xs) (looks_each t 0 t.functions) h)
+    (λ i f is h. (
+      part.Function i f,
+      at.function i is,
+      among_right (own_function t i f) (look_broken t (storing t) f) b h,
+    ))))))
 
 -- the other way
 put_struct : (end : ℕ) (t : Tables) (b : Broken) (i : ℕ) (s : StructTree)
@@ -121,7 +146,7 @@ put_struct : (end : ℕ) (t : Tables) (b : Broken) (i : ℕ) (s : StructTree)
     → IsAmong b (broken_of end t)
 put_struct end t b i s is h =
     among_left (structs_broken t 0 t.structs) (roots_broken t 0 t.roots
-    ++ (unless (is_some (slice_get t.roots 0)) end NoRoot ++ functions_broken t 0 t.functions)) b
+    ++ (unless (is_some (slice_get t.roots 0)) end NoRoot ++ of_functions t)) b
     (subst (λ xs. IsAmong b xs) (sym (structs_each t 0 t.structs))
     (of_each (whole_struct_broken t) t.structs b i s is h))
 
@@ -136,24 +161,35 @@ put_field end t b i j s f is at_j h =
 
 put_later : (end : ℕ) (t : Tables) (b : Broken)
     → IsAmong b (roots_broken t 0 t.roots ++ (unless (is_some (slice_get t.roots 0)) end NoRoot
-    ++ functions_broken t 0 t.functions)) → IsAmong b (broken_of end t)
+    ++ of_functions t)) → IsAmong b (broken_of end t)
 put_later end t b h = among_right (structs_broken t 0 t.structs) (roots_broken t 0 t.roots
-    ++ (unless (is_some (slice_get t.roots 0)) end NoRoot ++ functions_broken t 0 t.functions)) b h
+    ++ (unless (is_some (slice_get t.roots 0)) end NoRoot ++ of_functions t)) b h
 
 put_last : (end : ℕ) (t : Tables) (b : Broken)
     → IsAmong b (unless (is_some (slice_get t.roots 0)) end NoRoot
-    ++ functions_broken t 0 t.functions) → IsAmong b (broken_of end t)
+    ++ of_functions t) → IsAmong b (broken_of end t)
 put_last end t b h = put_later end t b (among_right (roots_broken t 0 t.roots)
-    (unless (is_some (slice_get t.roots 0)) end NoRoot ++ functions_broken t 0 t.functions) b h)
+    (unless (is_some (slice_get t.roots 0)) end NoRoot ++ of_functions t) b h)
 
 put_function : (end : ℕ) (t : Tables) (b : Broken) (i : ℕ) (f : FunctionTree)
     → slice_get t.functions i ≡ Some f → IsAmong b (whole_function_broken t i f)
     → IsAmong b (broken_of end t)
 put_function end t b i f is h =
     put_last end t b (among_right (unless (is_some (slice_get t.roots 0)) end NoRoot)
-    (functions_broken t 0 t.functions) b
+    (of_functions t) b
+    (among_left (functions_broken t 0 t.functions) (looks_broken t (storing t) t.functions) b
     (subst (λ xs. IsAmong b xs) (sym (functions_each t 0 t.functions))
-    (of_each (whole_function_broken t) t.functions b i f is h)))
+    (of_each (whole_function_broken t) t.functions b i f is h))))
+
+put_look : (end : ℕ) (t : Tables) (b : Broken) (i : ℕ) (f : FunctionTree)
+    → slice_get t.functions i ≡ Some f → IsAmong b (look_broken t (storing t) f)
+    → IsAmong b (broken_of end t)
+put_look end t b i f is h =
+    put_last end t b (among_right (unless (is_some (slice_get t.roots 0)) end NoRoot)
+    (of_functions t) b
+    (among_right (functions_broken t 0 t.functions) (looks_broken t (storing t) t.functions) b
+    (subst (λ xs. IsAmong b xs) (sym (looks_each t 0 t.functions))
+    (of_each (λ (i : ℕ) (f : FunctionTree). look_broken t (storing t) f) t.functions b i f is h))))
 
 put_head : (end : ℕ) (t : Tables) (b : Broken) (i : ℕ) (f : FunctionTree)
     → slice_get t.functions i ≡ Some f → IsAmong b (function_broken t i f)
@@ -169,8 +205,7 @@ put_body end t b i f is h = put_function end t b i f is
 pub put_whole : (end : ℕ) (t : Tables) (b : Broken) {p : Part} → StandsIn end t p
     → IsAmong b (own t p) → IsAmong b (broken_of end t)
 put_whole end t b at.whole h = put_last end t b
-    (among_left (unless (is_some (slice_get t.roots 0)) end NoRoot)
-    (functions_broken t 0 t.functions) b h)
+    (among_left (unless (is_some (slice_get t.roots 0)) end NoRoot) (of_functions t) b h)
 put_whole end t b (at.struct i {s = s} is) h =
     put_struct end t b i s is
     (among_left (struct_broken t i s) (fields_broken t (field_names s) 0 s.fields) b h)
@@ -182,12 +217,14 @@ put_whole end t b (at.field_type i j {s = s} {f = f} is at_j d) h =
     (among_left (type_broken t f.ty) (own_field s j f) b (put_type t b d h))
 put_whole end t b (at.root i {r = r} is) h =
     put_later end t b (among_left (roots_broken t 0 t.roots)
-    (unless (is_some (slice_get t.roots 0)) end NoRoot ++ functions_broken t 0 t.functions) b
+    (unless (is_some (slice_get t.roots 0)) end NoRoot ++ of_functions t) b
     (subst (λ xs. IsAmong b xs) (sym (roots_each t 0 t.roots))
     (of_each (root_item_broken t) t.roots b i r is h)))
 put_whole end t b (at.function i {f = f} is) h =
-    put_head end t b i f is
-    (among_right (option_map_or (type_broken t) f.result_type []) (own_function t i f) b h)
+    either (own_function t i f) (look_broken t (storing t) f) b h
+    (λ h. put_head end t b i f is
+    (among_right (option_map_or (type_broken t) f.result_type []) (own_function t i f) b h))
+    (λ h. put_look end t b i f is h)
 put_whole end t b (at.result_type i {f = f} {ty = ty} is gives d) h =
     put_head end t b i f is
     (among_left (option_map_or (type_broken t) f.result_type []) (own_function t i f) b

@@ -1,6 +1,6 @@
 -- A program that breaks no rule is well typed.
 use Rattle.std.proofs.Common.{◌≡◌, ℕ, zero, suc, ◌+◌, ◌≤◌, ◌<◌, Bool, true, false, List, [], ◌∷◌}
-use Rattle.std.proofs.Common.{length, refl, sym, ap, arith}
+use Rattle.std.proofs.Common.{length, refl, sym, ap, subst, arith}
 use Rattle.std.specs.Prelude.{◌||◌, not, nat_le, nat_eq, is_some, slice_get, Option, None, Some}
 use Rattle.std.specs.Option.{option_map_or}
 use Rattle.std.proofs.lemmas.Bool.Decides.{nat_tests}
@@ -10,6 +10,8 @@ use Rattle.nvm_base.proofs.Tests.{le_from, same_from, same_true, some_of}
 use Rattle.c_tree.specs.StmtTree.{TypeTree}
 use Rattle.c_tree.specs.StmtTree as stmt
 use Rattle.c_tree.specs.ItemTree.{FieldTree, FunctionTree, LengthTree, ParameterTree}
+use Rattle.c_tree.specs.declared.item.Marked.{Marked}
+use Rattle.c_tree.specs.declared.item.Marked.TheVariants as mark
 use Rattle.c_tree.specs.Program.{Program, tree_of}
 use Rattle.c_types.specs.declared.broken.Rule.TheVariants.{UnknownName, Twice, TooBig, NoRoot}
 use Rattle.c_types.specs.declared.broken.Rule.TheVariants.{BadTx}
@@ -27,8 +29,12 @@ use Rattle.c_types.specs.Declarations.{roots_broken, parameter_broken, parameter
 use Rattle.c_types.specs.Declarations.{scopes_after_parameter, scopes_after_parameters, all_ints}
 use Rattle.c_types.specs.Declarations.{is_transaction, function_broken, body_broken}
 use Rattle.c_types.specs.Declarations.{whole_function_broken, functions_broken}
+use Rattle.c_types.specs.Transactions.{is_const}
+use Rattle.c_types.specs.Looking.{statements_store, storing, look_broken, looks_broken}
 use Rattle.c_types.specs.Fault.{breaks}
 use Rattle.c_types.proofs.Unbroken.{none_left, none_right, some_none, holds}
+use Rattle.rules_law.specs.rules.Stores.{Stores}
+use Rattle.rules_law.proofs.rules.Storing.{stores_to}
 use Rattle.rules_law.specs.typed.Types.{StaticType, IsWritten}
 use Rattle.rules_law.specs.typed.Programs.{IsLength, IsField, IsStruct, AreParameters, AreInts}
 use Rattle.rules_law.specs.typed.Programs.{IsResult, IsTypedFunction, IsWellTyped}
@@ -269,9 +275,28 @@ head_found t i (x ∷ fs) le b (suc j) f e =
     rw (plus_next i j) (head_found t (i + 1) fs (omega (arith, here.few)) (none_right
     (whole_function_broken t i x) _ b) j f e)
 
+-- a function that is marked `const` doesn't store
+look_is : (a : Marked) (b : Bool) → (not (is_const a) || not b) ≡ true → a ≡ mark.Const → b ≡ true
+    → ⊥
+look_is mark.Plain b good is e = cc
+look_is mark.Abort b good is e = cc
+look_is mark.Const true good is e = false≢true good
+look_is mark.Const false good is e = false≢true e
+
+look_found : (t : Tables) (fs : List FunctionTree) → looks_broken t (storing t) fs ≡ [] → (j : ℕ)
+    (f : FunctionTree) → slice_get fs j ≡ Some f → f.mark ≡ mark.Const → Stores t f → ⊥
+look_found t [] b j f e is stores = none-some f e
+look_found t (x ∷ fs) b zero f e is stores =
+    let good : Bool = not (is_const f.mark) || not (statements_store t (storing t) f.body) in
+    look_is f.mark (statements_store t (storing t) f.body)
+    (holds good f.name.place BadTx (subst (λ (f : FunctionTree). look_broken t (storing t) f ≡ [])
+    (same_Some x f e) (none_left (look_broken t (storing t) x) _ b))) is (stores_to t f stores)
+look_found t (x ∷ fs) b (suc j) f e is stores =
+    look_found t fs (none_right (look_broken t (storing t) x) _ b) j f e is stores
+
 function_is : (t : Tables) (i : ℕ) (f : FunctionTree) → IsReady t → IsHead t i f
-    → IsTypedFunction t i f
-function_is t i f ready h =
+    → (f.mark ≡ mark.Const → Stores t f → ⊥) → IsTypedFunction t i f
+function_is t i f ready h looks =
     let written : AreWritten t f.parameters =
     parameters_written t (inner_scopes []) 0 f.parameters h.parameters in
     record {
@@ -279,6 +304,7 @@ function_is t i f ready h =
       first = h.first;
       result = h.result;
       transaction = h.transaction;
+      looks = looks;
       parameters = h.parameters;
       body = statements_are t f.result_type (scopes_after_parameters t
           (inner_scopes []) f.parameters) f.body ready h.result
@@ -301,7 +327,11 @@ well_typed tree b =
     let three = unless (is_some (slice_get t.roots 0)) (length tree.lines) NoRoot in
     let some : is_some (slice_get t.roots 0) ≡ true =
     holds (is_some (slice_get t.roots 0)) (length tree.lines) NoRoot (none_left three _ r2) in
-    let b4 : functions_broken t 0 t.functions ≡ [] = none_right three _ r2 in
+    let r3 = none_right three _ r2 in
+    let b4 : functions_broken t 0 t.functions ≡ [] =
+    none_left (functions_broken t 0 t.functions) _ r3 in
+    let b5 : looks_broken t (storing t) t.functions ≡ [] =
+    none_right (functions_broken t 0 t.functions) _ r3 in
     let structs = λ (i : ℕ) (s : StructTree)
     (e : slice_get t.structs i ≡ Some s). let made : IsStruct t i s =
     rw (← zero_plus i) (struct_found t 0 t.structs (omega arith) b1 i s e) in made in
@@ -320,5 +350,6 @@ well_typed tree b =
     record {
       structs = structs;
       root = root;
-      functions = λ i f e. function_is t i f ready (heads i f e);
+      functions = λ i f e. function_is t i f ready (heads i f e)
+          (look_found t t.functions b5 i f e);
     }

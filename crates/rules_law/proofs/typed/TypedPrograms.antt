@@ -9,6 +9,8 @@ use Rattle.nvm_base.proofs.Tests.{le_true}
 use Rattle.c_tree.specs.StmtTree.{TypeTree}
 use Rattle.c_tree.specs.StmtTree as stmt
 use Rattle.c_tree.specs.ItemTree.{FieldTree, FunctionTree, LengthTree, ParameterTree}
+use Rattle.c_tree.specs.declared.item.Marked.{Marked}
+use Rattle.c_tree.specs.declared.item.Marked.TheVariants as mark
 use Rattle.c_tree.specs.Program.{Program, tree_of}
 use Rattle.c_types.specs.declared.broken.Rule.TheVariants.{Twice, TooBig, NoRoot, BadTx}
 use Rattle.c_types.specs.declared.fault.LimitKind.TheVariants as limit
@@ -23,7 +25,11 @@ use Rattle.c_types.specs.Declarations.{whole_struct_broken, structs_broken, root
 use Rattle.c_types.specs.Declarations.{parameter_broken, parameters_broken, scopes_after_parameter}
 use Rattle.c_types.specs.Declarations.{scopes_after_parameters, all_ints, is_transaction}
 use Rattle.c_types.specs.Declarations.{function_broken, whole_function_broken, functions_broken}
+use Rattle.c_types.specs.Transactions.{is_const}
+use Rattle.c_types.specs.Looking.{statements_store, storing, look_broken, looks_broken}
 use Rattle.c_types.specs.Fault.{breaks}
+use Rattle.rules_law.specs.rules.Stores.{Stores}
+use Rattle.rules_law.proofs.rules.Storing.{stores_from}
 use Rattle.rules_law.specs.typed.Programs.{IsLength, IsField, IsStruct, AreParameters, AreInts}
 use Rattle.rules_law.specs.typed.Programs.{IsResult, IsTypedFunction, IsWellTyped}
 use Rattle.rules_law.proofs.typed.Broken.{none_both, kept}
@@ -148,6 +154,24 @@ functions_kept t i (f ∷ fs) h =
     (function_kept t i f (rw (plus_zero i) at (h 0 f refl)))
     (functions_kept t (i + 1) fs (λ j g e. rw (plus_next i j) at (h (suc j) g e)))
 
+look_good : (a : Marked) (b : Bool) → (a ≡ mark.Const → b ≡ true → ⊥)
+    → (not (is_const a) || not b) ≡ true
+look_good mark.Plain b h = refl
+look_good mark.Abort b h = refl
+look_good mark.Const true h = absurd (h refl refl)
+look_good mark.Const false h = refl
+
+looks_kept : (t : Tables) (fs : List FunctionTree) → ((j : ℕ) (f : FunctionTree)
+    → slice_get fs j ≡ Some f → f.mark ≡ mark.Const → Stores t f → ⊥)
+    → looks_broken t (storing t) fs ≡ []
+looks_kept t [] h = refl
+looks_kept t (f ∷ fs) h =
+    none_both (look_broken t (storing t) f) _
+    (kept (not (is_const f.mark) || not (statements_store t (storing t) f.body)) f.name.place BadTx
+    (look_good f.mark (statements_store t (storing t) f.body)
+    (λ is e. h 0 f refl is (stores_from t f e))))
+    (looks_kept t fs (λ j g e. h (suc j) g e))
+
 pub unbroken : (tree : Program) → IsWellTyped (tables_of (tree_of tree)) → breaks tree ≡ []
 unbroken tree h =
     let t : Tables = tables_of (tree_of tree) in
@@ -156,4 +180,6 @@ unbroken tree h =
     (none_both (roots_broken t 0 t.roots) _ (rw h.root.2 (root_kept t h.root.0 h.root.1 h.root.3))
     (none_both (unless (is_some (slice_get t.roots 0)) (length tree.lines) NoRoot) _
     (rw h.root.2 refl)
-    (functions_kept t 0 t.functions (λ i f e. rw (zero_plus i) (h.functions i f e)))))
+    (none_both (functions_broken t 0 t.functions) _
+    (functions_kept t 0 t.functions (λ i f e. rw (zero_plus i) (h.functions i f e)))
+    (looks_kept t t.functions (λ i f e. (h.functions i f e).looks)))))

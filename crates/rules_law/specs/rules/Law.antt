@@ -1,13 +1,15 @@
 -- The laws of the typing rules: what `c_types` lists is what the rows give, and the one that is
 -- told is the least of them by place, number and limit.
-use Rattle.std.specs.Prelude.{ℕ, ◌≡◌, ◌↔◌, List, false, length, Option, None, Some}
+use Rattle.std.specs.Prelude.{ℕ, ◌≡◌, ◌↔◌, List, true, false, length, Option, None, Some}
 use Rattle.c_tree.specs.ExprTree.{ExprTree}
+use Rattle.c_tree.specs.ItemTree.{FunctionTree}
 use Rattle.c_tree.specs.Program.{Program, tree_of}
 use Rattle.c_types.specs.declared.broken.Rule.{Rule}
 use Rattle.c_types.specs.declared.broken.Broken.{Broken}
 use Rattle.c_types.specs.declared.value_type.Kind.TheVariants as kind
 use Rattle.c_types.specs.Tables.{Tables, tables_of}
 use Rattle.c_types.specs.Expressions.{Scope, kind_of, type_of}
+use Rattle.c_types.specs.Looking.{statements_store, storing}
 use Rattle.c_types.specs.Broken.{is_before, least_broken}
 use Rattle.c_types.specs.LeastLaw.{IsAmong}
 use Rattle.c_types.specs.Fault.{breaks}
@@ -15,6 +17,7 @@ use Rattle.rules_law.specs.typed.Types.{StaticType, value_type}
 use Rattle.rules_law.specs.typed.Expressions.{HasType}
 use Rattle.rules_law.specs.rules.Part.{Part}
 use Rattle.rules_law.specs.rules.Stands.{StandsIn}
+use Rattle.rules_law.specs.rules.Stores.{Stores}
 use Rattle.rules_law.specs.rules.Rules.{Breaks}
 use Rattle.rules_law.specs.rules.Given.{Types, GivesArray, EndsAt}
 
@@ -34,6 +37,11 @@ IsFault tree (Some a) = IsBroken tree a.rule a.place
 
 abbrev pub ToldLaw : Type 0
 ToldLaw = (tree : Program) → IsFault tree (least_broken (breaks tree))
+
+-- the functions that the check finds to store are those that do
+abbrev pub StoresLaw : Type 0
+StoresLaw = (t : Tables) (f : FunctionTree) →
+    statements_store t (storing t) f.body ≡ true ↔ Stores t f
 
 -- the types and the arrays that the rows speak of are those that the rules give
 abbrev pub TypesLaw : Type 0

@@ -8,6 +8,7 @@ use Rattle.c_tree.specs.ExprTree as expr
 use Rattle.c_tree.specs.StmtTree.{TypeTree, InitialTree, DeclarationTree}
 use Rattle.c_tree.specs.StmtTree as stmt
 use Rattle.c_tree.specs.ItemTree.{FieldTree, FunctionTree, LengthTree, ParameterTree}
+use Rattle.c_tree.specs.declared.item.Marked.TheVariants as mark
 use Rattle.c_tree.specs.declared.expr.BinaryOp.{BinaryOp}
 use Rattle.c_tree.specs.declared.expr.BinaryOp.TheVariants as binary
 use Rattle.c_tree.specs.declared.expr.UnaryOp.{UnaryOp}
@@ -29,6 +30,7 @@ use Rattle.rules_law.specs.typed.Statements.{IsAssigned}
 use Rattle.rules_law.specs.rules.Given.{MayBe, Types, GivesArray, EndsAt}
 use Rattle.rules_law.specs.rules.Part.{Part}
 use Rattle.rules_law.specs.rules.Part as part
+use Rattle.rules_law.specs.rules.Stores.{Stores}
 
 -- Conditions on what has types as F and G say. A refused part may have any type, so none of these
 -- holds for its sake alone.
@@ -193,6 +195,9 @@ pub data Breaks (t : Tables) : Part → Rule → (place : ℕ) → Type 0 where
       → Breaks t (part.Function i f) BadTx f.name.place
   tx_parameter : {i : ℕ} {f : FunctionTree} (j : ℕ) (q : ParameterTree) → f.tx ≡ true
       → slice_get f.parameters j ≡ Some q → NoNumber (IsWritten t q.ty)
+      → Breaks t (part.Function i f) BadTx f.name.place
+  -- a `tx const` stores, by itself or by functions that it reaches by calls; the function's name
+  const_stores : {i : ℕ} {f : FunctionTree} → f.mark ≡ mark.Const → Stores t f
       → Breaks t (part.Function i f) BadTx f.name.place
   -- a `tx` is called; the call's name
   tx_called : {used : Bool} {name : Ident} {all : Arguments} (f : FunctionTree)

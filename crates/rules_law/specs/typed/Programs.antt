@@ -4,6 +4,7 @@ use Rattle.std.specs.Prelude.{slice_get}
 use Rattle.c_tree.specs.StmtTree.{TypeTree}
 use Rattle.c_tree.specs.StmtTree as stmt
 use Rattle.c_tree.specs.ItemTree.{FieldTree, FunctionTree, LengthTree, ParameterTree}
+use Rattle.c_tree.specs.declared.item.Marked.TheVariants as mark
 use Rattle.c_types.specs.Tables.{Tables, StructTree, RootTree, index_of, field_names}
 use Rattle.c_types.specs.Tables.{function_names, struct_named, root_struct, words_of_struct}
 use Rattle.c_types.specs.Tables.{is_length}
@@ -12,6 +13,7 @@ use Rattle.c_types.specs.Statements.{inner_scopes, is_declared}
 use Rattle.c_types.specs.Declarations.{scopes_after_parameter, scopes_after_parameters}
 use Rattle.rules_law.specs.typed.Types.{StaticType, IsWritten}
 use Rattle.rules_law.specs.typed.Statements.{AreStatements}
+use Rattle.rules_law.specs.rules.Stores.{Stores}
 
 abbrev pub IsLength : Option LengthTree → Type 0
 IsLength None = Unit {0}
@@ -48,12 +50,14 @@ IsResult t None = Unit {0}
 IsResult t (Some ty) = (x : StaticType) × IsWritten t ty x
 
 -- the function at place i: one of at most 1,024, the first of its name; a transaction takes numbers
--- and gives one; the parameters and the outermost block are one scope
+-- and gives one, and if it is marked `const` it doesn't store; the parameters and the outermost
+-- block are one scope
 pub record IsTypedFunction (t : Tables) (i : ℕ) (f : FunctionTree) : Type 0 where
   pub few : i < 1024
   pub first : index_of f.name.text (function_names t) ≡ Some i
   pub result : IsResult t f.result_type
   pub transaction : f.tx ≡ true → (f.result_type ≡ Some stmt.Int) × AreInts f.parameters
+  pub looks : f.mark ≡ mark.Const → Stores t f → ⊥
   pub parameters : AreParameters t (inner_scopes []) 0 f.parameters
   pub body : AreStatements t f.result_type
       (scopes_after_parameters t (inner_scopes []) f.parameters) f.body

@@ -21,6 +21,7 @@ use Rattle.c_tree.specs.StmtSpelling.{Spells, empty, declares, simply, block, if
 use Rattle.c_tree.specs.StmtSpelling.{repeats, repeats_after, counts, breaks, continues, returns}
 use Rattle.c_tree.specs.StmtSpelling.{SpellsAll, nothing, something}
 use Rattle.c_tree.specs.ItemTree.{ItemTree, FunctionTree, ParameterTree}
+use Rattle.c_tree.specs.declared.item.Marked.{Marked}
 use Rattle.c_tree.specs.ItemSpelling.{SpellsFunction, function, SpellsItem, struct_def, root_decl}
 use Rattle.c_tree.specs.ItemSpelling.{transaction, plain_function, SpellsItems, items_end}
 use Rattle.c_tree.specs.ItemSpelling.{items_more}
@@ -218,7 +219,7 @@ module _ (t : Tables) (program : Program) (ts : List Placed) (words : (i : ℕ)
   abbrev pub FunctionWords : FunctionTree → Type 0
   FunctionWords f = AreWords (lowered_function t program f).code
 
-  function_words : {tx b : Bool} {i j : ℕ} {x : ItemTree} (xs : List ItemTree)
+  function_words : {tx : Bool} {b : Marked} {i j : ℕ} {x : ItemTree} (xs : List ItemTree)
       → SpellsFunction ts tx b i j x → AllByRecursion FunctionWords (function_trees xs)
       → AllByRecursion FunctionWords (function_trees (x ∷ xs))
   function_words xs (function {tx = tx} {m = m} {r = r} {ps = ps} {all = all} result name opens

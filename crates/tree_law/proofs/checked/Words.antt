@@ -14,6 +14,7 @@ use Rattle.nvm_base.proofs.Tests.{le_from}
 use Rattle.c_lexer.specs.declared.token.Placed.{Placed}
 use Rattle.c_tree.specs.ItemTree.{ItemTree, FieldTree, LengthTree}
 use Rattle.c_tree.specs.Kinds.{ident_at}
+use Rattle.c_tree.specs.declared.item.Marked.{Marked}
 use Rattle.c_tree.specs.ItemSpelling.{SpellsFunction, SpellsItem, SpellsItems, items_end}
 use Rattle.c_tree.specs.ItemSpelling.{items_more, struct_def, root_decl, transaction}
 use Rattle.c_tree.specs.ItemSpelling.{plain_function, function}
@@ -172,8 +173,9 @@ more_have x ss one rest zero s is = let same : x ≡ s = same_Some x s is in
     subst (λ (y : StructTree). 1 ≤ length y.fields) same one
 more_have x ss one rest (suc j) s is = rest j s is
 
-function_none : {ts : List Placed} {tx b : Bool} {i j : ℕ} {x : ItemTree} (xs : List ItemTree)
-    → SpellsFunction ts tx b i j x → HaveFields (structs_of xs) → HaveFields (structs_of (x ∷ xs))
+function_none : {ts : List Placed} {tx : Bool} {b : Marked} {i j : ℕ} {x : ItemTree}
+    (xs : List ItemTree) → SpellsFunction ts tx b i j x → HaveFields (structs_of xs)
+    → HaveFields (structs_of (x ∷ xs))
 function_none xs (function result name opens signature brace body closes) rest = rest
 
 item_has : {ts : List Placed} {i j : ℕ} {x : ItemTree} (xs : List ItemTree) → SpellsItem ts i j x

@@ -11,7 +11,9 @@ use Rattle.c_tree.specs.ItemTree as tree
 use Rattle.c_tree.specs.Program.{Program, tree_of}
 use Rattle.c_tree.specs.ItemSpelling.{SpellsParameters, parameters_last, parameters_more, Signature}
 use Rattle.c_tree.specs.ItemSpelling.{signature_none, signature_void, signature_some, ResultType}
-use Rattle.c_tree.specs.ItemSpelling.{result_void, result_some, unmarked, marked, SpellsFunction}
+use Rattle.c_tree.specs.declared.item.Marked.{Marked}
+use Rattle.c_tree.specs.ItemSpelling.{result_void, result_some, unmarked, marked_abort}
+use Rattle.c_tree.specs.ItemSpelling.{marked_const, SpellsFunction}
 use Rattle.c_tree.specs.ItemSpelling.{function, SpellsItem, struct_def, root_decl, transaction}
 use Rattle.c_tree.specs.ItemSpelling.{plain_function, SpellsItems, items_end, items_more}
 use Rattle.c_tree.specs.ItemSpelling.{SpellsField, SpellsFields, fields_end, fields_more, single}
@@ -66,13 +68,14 @@ module _ (t : Tables) (program : Program) where
   abbrev code_in : List ItemTree → ℕ
   code_in xs = whole (map (lowered_function t program) (function_trees xs))
 
-  function_short : {ts : List Placed} {tx b : Bool} {i j : ℕ} {x : ItemTree} (xs : List ItemTree)
-      → SpellsFunction ts tx b i j x → code_in (x ∷ xs) + 4 * i ≤ code_in xs + 4 * j
-  function_short {ts} xs (function {tx = tx} {rolls_back = b} {m = m} {r = r} {ps = ps} {all = all}
+  function_short : {ts : List Placed} {tx : Bool} {b : Marked} {i j : ℕ} {x : ItemTree}
+      (xs : List ItemTree) → SpellsFunction ts tx b i j x
+      → code_in (x ∷ xs) + 4 * i ≤ code_in xs + 4 * j
+  function_short {ts} xs (function {tx = tx} {a = b} {m = m} {r = r} {ps = ps} {all = all}
       result name opens signature brace body closes) =
       let f : FunctionTree = record {
         tx = tx;
-        rolls_back = b;
+        mark = b;
         result_type = r;
         name = ident_at ts m;
         parameters = ps;
@@ -94,7 +97,8 @@ module _ (t : Tables) (program : Program) where
       omega (arith, field_grows field, fields_grow fields)
   item_short xs (root_decl is word name root ends) = omega arith
   item_short xs (transaction (unmarked is) h) = omega (arith, function_short xs h)
-  item_short xs (transaction (marked is word) h) = omega (arith, function_short xs h)
+  item_short xs (transaction (marked_abort is word) h) = omega (arith, function_short xs h)
+  item_short xs (transaction (marked_const is word) h) = omega (arith, function_short xs h)
   item_short xs (plain_function h) = function_short xs h
 
   items_short : {ts : List Placed} {i j : ℕ} {xs : List ItemTree} → SpellsItems ts i j xs

@@ -14,7 +14,7 @@ returns-in-Persistent-clause-fixes c =
 pub returns-in-Tx-clause-fixes : goal.returns-in-Tx-clause-fixes
 returns-in-Tx-clause-fixes c =
     led_item _ _ _ c.function.ensures.fixes
-    (item_transaction _ _ _ _ c.in-Tx.ensures.value c.transaction-rolls_back.ensures.fixes)
+    (item_transaction _ _ _ _ c.in-Tx.ensures.value c.transaction-mark.ensures.fixes)
 
 pub returns-in_default : goal.returns-in_default
 returns-in_default c = record {
