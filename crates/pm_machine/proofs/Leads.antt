@@ -39,7 +39,7 @@ leads_next d k es x d0 k0 x0 b all h = record {
 }
 
 -- the instruction at a machine's place, found in the code of its open function
-fetched : (image : Image) (s : State) (code : List Op)
+pub fetched : (image : Image) (s : State) (code : List Op)
     → code ≡ code_of image.parts.functions s.top.function
     → slice_get code s.top.place ≡ fetch image s
 fetched image s code is =

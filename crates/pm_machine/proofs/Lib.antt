@@ -2,6 +2,8 @@ pub mod Stacks
 pub mod DirtyLines
 pub mod Range
 pub mod Leads
+pub mod Looks
+pub mod Looked
 pub mod Dues
 pub mod Fuel
 pub mod Recording

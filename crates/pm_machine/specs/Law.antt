@@ -1,5 +1,5 @@
 -- The laws of the machine's runs.
-use Rattle.std.specs.Prelude.{ℕ, ◌+◌, ◌<◌, ◌≤◌, ◌≡◌, true, false, nat_lt, List}
+use Rattle.std.specs.Prelude.{ℕ, ◌+◌, ◌<◌, ◌≤◌, ◌≡◌, true, false, nat_lt, List, length}
 use Rattle.cache_model.specs.Cache.{Words, Cache}
 use Rattle.pool_layout.specs.Sizes.{heap_words}
 use Rattle.pool_map.specs.declared.trap.TrapKind.TheVariants.{LogFull}
@@ -11,6 +11,7 @@ use Rattle.pm_machine.specs.Effects.{heap_end, records_end}
 use Rattle.pm_machine.specs.Inputs.{AreAlike}
 use Rattle.pm_machine.specs.Machine.{State, Finished, run}
 use Rattle.pm_machine.specs.Logging.{Logging, logged_run, with_records, takes}
+use Rattle.pm_machine.specs.Looking.{look_of, AreLooks}
 use Rattle.pm_machine.specs.Runs.{heap_in, AreLines, due, owed, IsFinished}
 
 -- A run that finished has the same end with more fuel.
@@ -67,3 +68,15 @@ AlikeDueLaw =
     AreLines (heap_words image.parts.sizes) s.dirty → logged_run image k g s h ≡ Finished end es
     → AreAlike (heap_words image.parts.sizes) es h (heap_in image.parts.sizes c) →
     due image a k g s c ≡ owed image.parts.sizes a g (heap_in image.parts.sizes c) (Finished end es)
+
+-- A run whose effects are all those of a look is one: it ends so, and the heap stays as it is.
+pub record IsLookOf (image : Image) (k : ℕ) (s : State) (heap : Words) (end : End)
+    (es : List Effect) : Type 0 where
+  pub end_is : (look_of image k s heap).end ≡ end
+  pub steps_are : (look_of image k s heap).steps ≡ length es + 1
+  pub heap_is : heap_end heap es ≡ heap
+
+abbrev pub LookLaw : Type 0
+LookLaw =
+    (image : Image) (k : ℕ) (s : State) (heap : Words) (end : End) (es : List Effect) →
+    run image k s heap ≡ Finished end es → AreLooks es → IsLookOf image k s heap end es

@@ -7,6 +7,7 @@ pub mod Effects
 pub mod Find
 pub mod Machine
 pub mod Logging
+pub mod Looking
 pub mod Runs
 pub mod Answers
 pub mod Inputs

@@ -10,6 +10,7 @@ ghost use Rattle.pm_machine.specs.Logging.{has_room, unlisted, noted, turn_of};
 ghost use Rattle.pm_machine.specs.Effects.{events_of};
 ghost use Rattle.std.specs.Option.{ForSome};
 ghost use Rattle.pm_machine.specs.Runs.{heap_in, AreLines, IsTurn, IfEnded, due, due_step, end_of};
+ghost use Rattle.pm_machine.specs.Looking.{look_of};
 ghost use Rattle.pm_machine.specs.Stops.{stop_in};
 ghost use Rattle.pm_machine.specs.inside.Runs.{IsInRange, HasRoomFor, taken_events};
 ghost use Rattle.pm_machine.specs.inside.Runs.{IsStep, bare_events};
@@ -300,5 +301,35 @@ impl Machine {
             left = self.processor.run_silently(image, dev, left, steps);
         }
         Ok(End::Trapped(TrapKind::Steps))
+    }
+
+    /// Runs to the end as a run that only looks, in at most the image's steps: nothing is played,
+    /// and the device stays as it was. The machine has to be restarted before it is used again.
+    pub fn look<P: PmemWork, L: Ledger>(
+        &mut self,
+        image: &Image,
+        dev: &mut P,
+        steps: &mut Steps<L>,
+    ) -> End
+        requires lines { (P.device dev.old).lines ≡ pool_lines image.now.parts.sizes }
+        requires on { (P.device dev.old).on ≡ true }
+        ensures same { P.device dev.new ≡ P.device dev.old }
+        ensures end { result ≡ (look_of image.now image.now.parts.most self.old.processor
+            (heap_in image.now.parts.sizes (P.device dev.old).cache)).end }
+        ensures cost { steps.new ≡ steps.old + (look_of image.now image.now.parts.most
+            self.old.processor (heap_in image.now.parts.sizes (P.device dev.old).cache)).steps }
+        ensures most { steps.new ≤ steps.old + image.now.parts.most }
+    {
+        let mut left = self.processor.run_silently(image, dev, image.most(), steps);
+        while left > 0 {
+            left -= 1;
+            steps.tick();
+            match self.processor.look(dev, image) {
+                None => {}
+                Some(end) => return end,
+            }
+            left = self.processor.run_silently(image, dev, left, steps);
+        }
+        End::Trapped(TrapKind::Steps)
     }
 }

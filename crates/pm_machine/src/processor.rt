@@ -26,7 +26,8 @@ ghost use Rattle.pm_machine.specs.Runs.{end_of, due_step};
 ghost use Rattle.cache_model.specs.Cache.{Words};
 ghost use Rattle.pm_machine.specs.Logging.{asks};
 ghost use Rattle.pm_machine.specs.Stops.{stop_in};
-ghost use Rattle.pm_machine.specs.inside.Runs.{IsStore, IsInRange, RestLeads};
+ghost use Rattle.pm_machine.specs.Looking.{is_look, IsLook};
+ghost use Rattle.pm_machine.specs.inside.Runs.{IsStore, IsInRange, RestLeads, RestLooks};
 
 use crate::effect::{Effect, End};
 use crate::find::search;
@@ -576,6 +577,8 @@ impl Processor {
         requires lines { (P.device dev.now).lines ≡ pool_lines image.now.parts.sizes }
         ensures leads { RestLeads image.now (P.device dev.now) result steps.new self.new left
             steps.old self.old }
+        ensures looks { RestLooks image.now (P.device dev.now) result steps.new self.new left
+            steps.old self.old }
         ensures spent { steps.new + result ≡ steps.old + left }
         ensures fewer { result ≤ left }
         ensures dirty { self.new.dirty ≡ self.old.dirty }
@@ -590,6 +593,21 @@ impl Processor {
         self.top.place = to.place;
         self.ticks = to.ticks;
         to.left
+    }
+
+    /// One step of a run that only looks: its end, if it ends.
+    pub(crate) fn look<P: PmemWork>(&mut self, dev: &mut P, image: &Image) -> Option<End>
+        requires lines { (P.device dev.old).lines ≡ pool_lines image.now.parts.sizes }
+        requires on { (P.device dev.old).on ≡ true }
+        ensures same { P.device dev.new ≡ P.device dev.old }
+        ensures meaning { IsLook result self.new (step image.now self.old
+            (heap_in image.now.parts.sizes (P.device dev.old).cache)) }
+    {
+        match self.step(dev, image) {
+            Ok(Progress::Ended(end)) => Some(end),
+            Ok(Progress::Did(effect)) => look_past(effect),
+            Err(_) => Some(End::Trapped(TrapKind::Depth)),
+        }
     }
 
     /// The word that the next instruction asks a record of.
@@ -615,6 +633,18 @@ impl Processor {
         Stop {
             function: self.top.function,
             place: self.top.place as u64,
+        }
+    }
+}
+
+/// The end of a run that only looks at an effect, if it ends there.
+fn look_past(effect: Effect) -> Option<End>
+    ensures { result ≡ (if is_look effect then None else Some (Trapped trap.Depth)) }
+{
+    match effect {
+        Effect::Loads(_) | Effect::Fences | Effect::Quiet => None,
+        Effect::Scans(..) | Effect::Stores(..) | Effect::Logs(_) | Effect::Flushes(_) => {
+            Some(End::Trapped(TrapKind::Depth))
         }
     }
 }

@@ -10,7 +10,8 @@ ghost use Rattle.std.specs.Ordering.{int_eq};
 ghost use Rattle.pool_layout.specs.Sizes.{heap_words, pool_lines};
 ghost use Rattle.pm_machine.specs.Machine.{State, execute, load, word_at, moved_to, passed};
 ghost use Rattle.pm_machine.specs.Runs.{heap_in};
-ghost use Rattle.pm_machine.specs.inside.Runs.{GoesSilently, StretchLeads, worked};
+ghost use Rattle.pm_machine.specs.inside.Runs.{GoesSilently, StretchLeads, StretchLooks};
+ghost use Rattle.pm_machine.specs.inside.Runs.{worked};
 
 use crate::frame::RegisterWords;
 use crate::image::Image;
@@ -187,6 +188,8 @@ pub(crate) fn run_silently<P: PmemWork, L: Ledger>(
 ) -> Reached
     requires lines { (P.device dev.now).lines ≡ pool_lines image.now.parts.sizes }
     ensures leads { StretchLeads image.now (P.device dev.now) function registers.new result
+        steps.new registers.old from steps.old }
+    ensures looks { StretchLooks image.now (P.device dev.now) function registers.new result
         steps.new registers.old from steps.old }
     ensures spent { steps.new + result.left ≡ steps.old + from.left }
     ensures fewer { result.left ≤ from.left }

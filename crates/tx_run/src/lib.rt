@@ -8,10 +8,12 @@
 mod answer;
 mod calling;
 mod closing;
+mod looking;
 mod settling;
 mod standing;
 
 pub use answer::{CallAnswer, Settled};
 pub use calling::call;
+pub use looking::{LookAnswer, look};
 pub use settling::settle;
 pub use standing::{Standing, assess, is_number, marked_kind};

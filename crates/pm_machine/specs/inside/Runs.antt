@@ -16,6 +16,7 @@ use Rattle.pm_machine.specs.declared.machine.Went.TheVariants as went
 use Rattle.pm_machine.specs.declared.silent.Reached.{Reached}
 use Rattle.pm_machine.specs.Effects.{events_of}
 use Rattle.pm_machine.specs.Logging.{Logging, bare}
+use Rattle.pm_machine.specs.Looking.{look_of}
 use Rattle.pm_machine.specs.Machine.{State, StepOutcome, Goes, Ends, step}
 use Rattle.pm_machine.specs.Runs.{heap_in, effect_in, AreLines, Due, due}
 use Rattle.cache_model.specs.declared.slot.TheConstants.{SLOT_WORDS}
@@ -120,4 +121,21 @@ abbrev pub StretchLeads : Image → Device → (function : ℕ) → List ℤ →
 StretchLeads image d function registers to k registers0 from k0 = (s : State)
     → s.top.function ≡ function
     → RestLeads image d to.left k (worked s registers to.ticks to.place)
+    from.left k0 (worked s registers0 from.ticks from.place)
+
+-- what is left of a run that only looks, in state s after k steps, completes what was left of it in
+-- state s0 after k0 steps
+pub record RestLooks (image : Image) (d : Device) (left k : ℕ) (s : State) (left0 k0 : ℕ)
+    (s0 : State) : Type 0 where
+  pub end : (look_of image left s (heap_in image.parts.sizes d.cache)).end
+      ≡ (look_of image left0 s0 (heap_in image.parts.sizes d.cache)).end
+  pub steps : k + (look_of image left s (heap_in image.parts.sizes d.cache)).steps
+      ≡ k0 + (look_of image left0 s0 (heap_in image.parts.sizes d.cache)).steps
+
+-- the same of a stretch without events, as above
+abbrev pub StretchLooks : Image → Device → (function : ℕ) → List ℤ → Reached → (k : ℕ) → List ℤ
+    → Reached → (k0 : ℕ) → Type 0
+StretchLooks image d function registers to k registers0 from k0 = (s : State)
+    → s.top.function ≡ function
+    → RestLooks image d to.left k (worked s registers to.ticks to.place)
     from.left k0 (worked s registers0 from.ticks from.place)

@@ -3,6 +3,7 @@ use Rattle.pm_machine.proofs.Recording.{records_law, exact_law}
 use Rattle.pm_machine.proofs.Dues.{due_run}
 use Rattle.pm_machine.proofs.Agree.{agree, alike_due}
 use Rattle.pm_machine.proofs.Least.{found_least}
+use Rattle.pm_machine.proofs.Looked.{look_run}
 use Rattle.pm_machine.proofs.laws.machine_laws.Goals as goal
 
 pub returns-clause-fuel : goal.returns-clause-fuel
@@ -27,3 +28,6 @@ returns-clause-alike given = λ image a k g s c h end es lines ran alike.
 
 pub returns-clause-find : goal.returns-clause-find
 returns-clause-find given = found_least
+
+pub returns-clause-looks : goal.returns-clause-looks
+returns-clause-looks c = look_run

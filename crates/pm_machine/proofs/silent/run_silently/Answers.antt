@@ -4,6 +4,7 @@ use Rattle.pm_machine.specs.Runs.{due}
 use Rattle.pm_machine.specs.inside.Code.{code_of}
 use Rattle.pm_machine.specs.inside.Runs.{worked}
 use Rattle.pm_machine.proofs.Leads.{leads_silent}
+use Rattle.pm_machine.proofs.Looks.{looks_silent}
 use Rattle.pm_machine.proofs.silent.run_silently.Goals as goal
 
 pub loop-left-preserved : goal.loop-left-preserved
@@ -28,6 +29,13 @@ loop-left-preserved g c =
           (worked s c.step.new.registers c.step.new.ticks c.in-Some.next) c.tick.new.self
           (code_at s is)
           (c.in-Some.ensures.done s) tick some (i.invariant.leads s is a log);
+      looks = λ s is.
+          looks_silent image d i.left i.steps (worked s i.registers i.ticks i.place)
+          c.args.from.left c.args.steps.now
+          (worked s c.args.registers.now c.args.from.ticks c.args.from.place)
+          c.code-code.result.now
+          (worked s c.step.new.registers c.step.new.ticks c.in-Some.next) c.tick.new.self
+          (code_at s is) (c.in-Some.ensures.done s) tick some (i.invariant.looks s is);
       spent = omega arith;
       fewer = omega arith;
       size = search rules;

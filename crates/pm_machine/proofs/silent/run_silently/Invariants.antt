@@ -1,6 +1,6 @@
 use Rattle.std.proofs.Common.{◌≡◌, ◌≤◌, ◌+◌, length}
 use Rattle.pm_machine.specs.Machine.{State}
-use Rattle.pm_machine.specs.inside.Runs.{RestLeads, worked}
+use Rattle.pm_machine.specs.inside.Runs.{RestLeads, RestLooks, worked}
 use Rattle.pm_machine.proofs.silent.run_silently.Given as goal
 
 abbrev pub invariant-loop-left : goal.invariant-loop-left
@@ -9,6 +9,10 @@ invariant-loop-left g l =
     record {
       leads : (s : State) → s.top.function ≡ l.function
           → RestLeads l.image (device l.dev) l.left l.steps (worked s l.registers l.ticks l.place)
+          l.fn.from.left l.fn.steps
+          (worked s l.fn.registers l.fn.from.ticks l.fn.from.place);
+      looks : (s : State) → s.top.function ≡ l.function
+          → RestLooks l.image (device l.dev) l.left l.steps (worked s l.registers l.ticks l.place)
           l.fn.from.left l.fn.steps
           (worked s l.fn.registers l.fn.from.ticks l.fn.from.place);
       spent : l.steps + l.left ≡ l.fn.steps + l.fn.from.left;
