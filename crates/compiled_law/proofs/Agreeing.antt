@@ -15,7 +15,8 @@ use Rattle.c_lexer.specs.TokenList.{Tokens}
 use Rattle.c_tree.specs.ItemTree.{FunctionTree}
 use Rattle.c_tree.specs.Program as parser
 use Rattle.c_types.specs.Tables.{Tables, tables_of}
-use Rattle.c_types.specs.Shapes.{shapes_of}
+use Rattle.c_types.specs.Shapes.{shapes_of, transactions_in}
+use Rattle.c_types.specs.Looking.{storing}
 use Rattle.c_meaning.specs.Meaning.{Out, Got, Stops, function_value, calls_of}
 use Rattle.c_meaning.specs.Transaction.{Outcome, outcome, run_transaction}
 use Rattle.ir.specs.declared.instruction.Target.{Target}
@@ -58,6 +59,9 @@ use Rattle.pm_machine.specs.declared.image.ImageParts.{ImageParts}
 use Rattle.pm_machine.specs.declared.op.TxEntry.{TxEntry}
 use Rattle.pm_machine.specs.Effects.{heap_end}
 use Rattle.codegen.specs.Emit.{txs_from}
+use Rattle.rules_law.proofs.rules.Storing.{storing_settled}
+use Rattle.look_law.specs.Code.{looking_by}
+use Rattle.look_law.proofs.Compiled.{compiled_looks}
 use Rattle.machine_law.specs.emitted.Standing.{HasRoom}
 use Rattle.machine_law.specs.emitted.TidyCode.{HasCode}
 use Rattle.machine_law.specs.pieces.Fits.{IsFit}
@@ -85,6 +89,7 @@ use Rattle.compiled_law.specs.inside.Runs.{EndsAs}
 use Rattle.compiled_law.specs.inside.Records.{asked_of, fresh}
 use Rattle.compiled_law.specs.Law.{IsCompiledFrom, CompiledLaw, ComesLaw}
 use Rattle.compiled_law.proofs.Apart.{heap_apart}
+use Rattle.compiled_law.proofs.Looking.{named_const, only_looks}
 use Rattle.compiled_law.proofs.Marked.{all_stores}
 use Rattle.compiled_law.proofs.Recording.{they_take}
 use Rattle.compiled_law.proofs.Entering.{code_of, parameters_same, entries_same, entry_is}
@@ -209,6 +214,12 @@ module _ (text : List ℕ) (list : Tokens) (program : Program)
   functions_few : length L.functions < 2 ^ 32
   functions_few =
       omega (arith, functions_length marks 0 plain.functions, (limits tree c.checked).few)
+
+  source_few : length t.functions < 2 ^ 32
+  source_few =
+      let same : length plain.functions ≡ length t.functions =
+      length-map t.functions (lowered_function t tree) in
+      omega (arith, same, (limits tree c.checked).few)
 
   has_code : HasCode program.image s L
   has_code = record {
@@ -411,6 +422,13 @@ module _ (text : List ℕ) (list : Tokens) (program : Program)
                 ends ran.ends));
             logs = λ r. subst (LogsBy r program w (suc i) args) (sym (ran.records r))
                 (counted i args w entry found r);
+            looks = λ is. compiled_looks program.image s tree marks (storing t)
+                program.image.parts.most h (suc i) entry args ran.end ran.effects
+                has_code.functions (storing_settled t) source_few
+                (ap (slice_get program.image.parts.txs) (one_less i) ∙ found)
+                (subst (λ (n : ℕ). looking_by (storing t) n ≡ true) (sym function)
+                (only_looks tree g e.f c.checked e.found
+                (named_const (slice_get (transactions_in t.functions) i) e.f e.named is))) ran.is;
           }
 
   few_are : (tx n : ℕ) → tx_parameters program.image tx ≡ Some n → (tx < 2 ^ 63) × (n ≤ 22)

@@ -1,0 +1,3 @@
+pub mod MachineCode
+pub mod Code
+pub mod Law
