@@ -24,12 +24,14 @@ use Rattle.cnvm_session.specs.declared.mode.Mode.{Mode}
 use Rattle.cnvm_session.specs.declared.mode.Mode.TheVariants.{Ready, Down, Unusable}
 use Rattle.cnvm_session.specs.declared.answer.Answer.{Answer}
 use Rattle.cnvm_session.specs.declared.program.Program.{Program}
-use Rattle.cnvm_session.specs.Marks.{is_marked, rolls_back_of, policy_of, has_marked, owes_marked}
-use Rattle.cnvm_session.specs.Outcomes.{RunsBy, RecoversBy}
+use Rattle.cnvm_session.specs.Marks.{is_marked, rolls_back_of, looks_of, policy_of, has_marked}
+use Rattle.cnvm_session.specs.Marks.{owes_marked}
+use Rattle.cnvm_session.specs.Outcomes.{RunsBy, RunsAs, RecoversBy}
 use Rattle.cnvm_session.specs.Commands.{Shows, Lasts, call_number, tx_parameters, CallsWith}
 use Rattle.cnvm_session.specs.Commands.{CallsTo, CallsNamed, Calls, fallen, Powers, Commanded}
 use Rattle.cnvm_session.specs.Steps.{bounded_steps, most_of_command, most_of_program}
 use Rattle.cnvm_session.specs.Laws.{MostLaw}
+use Rattle.cnvm_session.proofs.Calls.{look_counts, look_rises}
 
 abbrev Few : (most k k1 : ℕ) → Type 0
 Few most k k1 = k1 ≤ k + most
@@ -48,6 +50,13 @@ pub call_within : (p : Policy) (image : Image) (k k1 : ℕ) → k1 ≤ k + most_
     → k1 ≤ k + bounded_steps false image
 call_within RollBack image k k1 most = omega (arith, most)
 call_within EndPool image k k1 most = omega (arith, most)
+
+-- a look's, which takes no record
+pub look_within : (image : Image) (k k1 : ℕ) → k1 ≤ k + image.parts.most
+    → k1 ≤ k + bounded_steps false image
+look_within image k k1 most = omega (arith, most)
+
+pub ruleset look_ends = (look_within, look_counts, look_rises)
 
 recovery_bound : (marks : Bool) (image : Image) (k k1 : ℕ)
     → k1 ≤ k + image.parts.sizes.records + most_steps (policy_of marks) image
@@ -68,6 +77,12 @@ runs_most : (marks : Bool) (image : Image) (tx : ℕ) (args : List ℤ) (d : Dev
 runs_most marks image tx args d a n b k k1 h = call_within (policy_of marks) image k k1
     h.called.most
 
+as_most : (looks marks : Bool) (image : Image) (tx : ℕ) (args : List ℤ) (d : Device) (a : Answer)
+    (n : Mode) (b : Device) (k k1 : ℕ) → RunsAs looks marks image tx args d a n b k k1
+    → Few (bounded_steps false image) k k1
+as_most true marks image tx args d a n b k k1 h = look_within image k k1 h.most
+as_most false marks image tx args d a n b k k1 h = runs_most marks image tx args d a n b k k1 h
+
 module _ (program : Program) (args : List ℤ) (d : Device) (a : Answer) (n : Mode) (b : Device)
     (k k1 : ℕ) where
   abbrev most : ℕ
@@ -75,7 +90,7 @@ module _ (program : Program) (args : List ℤ) (d : Device) (a : Answer) (n : Mo
 
   with_count : (same : Bool) (tx : ℕ) → CallsWith same program tx args d a n b k k1 → Few most k k1
   with_count true tx h =
-      runs_most (rolls_back_of program tx) program.image tx args d a n b k k1 h
+      as_most (looks_of program tx) (rolls_back_of program tx) program.image tx args d a n b k k1 h
   with_count false tx h = none most k k1 h.3
 
   to_number : (count : Option ℕ) (tx : ℕ) → CallsTo count program tx args d a n b k k1 →

@@ -1,6 +1,7 @@
--- The count of faults in a call.
-use Rattle.std.proofs.Common.{ℕ, List, ℤ}
-use Rattle.pmem.specs.Device.{Device}
+-- The count of faults in a call, and in a look.
+use Rattle.std.proofs.Common.{ℕ, List, ℤ, ◌≡◌, ◌≤◌, ◌∙◌, sym}
+use Rattle.pmem.specs.Device.{Device, FaultsRose}
+use Rattle.pmem.proofs.Parts.{same_rise}
 use Rattle.pmem.specs.declared.answer.Phase.TheVariants as phase
 use Rattle.pmem.specs.declared.answer.Refusal.TheVariants as refusal
 use Rattle.pm_machine.specs.declared.records.Policy.{Policy}
@@ -8,7 +9,11 @@ use Rattle.pm_machine.specs.declared.image.Image.{Image}
 use Rattle.tx_run.specs.Called.{Called, IsTxCalled}
 use Rattle.tx_run.specs.declared.answer.CallAnswer.{CallAnswer}
 use Rattle.tx_run.specs.declared.answer.CallAnswer.TheVariants as called
-use Rattle.cnvm_session.specs.Outcomes.{answer_of_call}
+use Rattle.tx_run.specs.declared.looking.LookAnswer.{LookAnswer}
+use Rattle.tx_run.specs.declared.looking.LookAnswer.TheVariants as looked
+use Rattle.cnvm_session.specs.declared.answer.Answer.{Answer}
+use Rattle.cnvm_session.specs.declared.answer.Answer.TheVariants as answer
+use Rattle.cnvm_session.specs.Outcomes.{answer_of_call, answer_of_look}
 use Rattle.cnvm_session.proofs.Cases.{by_standing}
 use Rattle.cnvm_session.proofs.Faults.{Counts, counts_all, counts_part, counts_failed, counts_same}
 
@@ -40,3 +45,22 @@ call_counts r p image tx args d b k k1 h =
     counts_same answer_of_call r called.Numbers d b same.0 (λ e. absurd cc) same.1)
     (λ off. let same = h.off off in
     counts_same answer_of_call r (called.Off phase.Unsealed) d b same.0 (λ e. absurd cc) same.1)
+
+never_failed : (r : LookAnswer) → answer_of_look r ≡ answer.DeviceFault → ⊥
+never_failed (looked.Done v) is = absurd cc
+never_failed (looked.Aborted t) is = absurd cc
+never_failed looked.Off is = absurd cc
+never_failed looked.NoMemory is = absurd cc
+
+-- a look is never answered with a fault of the device
+pub look_no_fault : (r : LookAnswer) (a : Answer) → a ≡ answer_of_look r
+    → a ≡ answer.DeviceFault → ⊥
+look_no_fault r a is fault = never_failed r (sym is ∙ fault)
+
+-- so its device's count of faults did what any call's does
+pub look_counts : (d b : Device) → b ≡ d → d.faults ≤ b.faults
+look_counts d b same = same_rise d b same
+
+pub look_rises : (a : Answer) (d b : Device) → (a ≡ answer.DeviceFault → ⊥)
+    → a ≡ answer.DeviceFault → FaultsRose d.faults b.faults
+look_rises a d b never fault = absurd (never fault)

@@ -5,23 +5,39 @@ use Rattle.std.proofs.lemmas.Option.{slice_get_past}
 use Rattle.std.specs.Option.{option_map_or}
 use Rattle.c_tree.specs.ItemTree.{FunctionTree}
 use Rattle.c_types.specs.Shapes.{transactions_of}
+use Rattle.c_types.specs.Transactions.{is_const}
 use Rattle.cnvm_session.specs.declared.program.Program.{Program}
-use Rattle.cnvm_session.specs.Marks.{is_marked, rolls_back_of}
+use Rattle.cnvm_session.specs.Marks.{is_marked, rolls_back_of, looks_of}
 
-found : (o : Option FunctionTree) (r : Bool) → Some r ≡ option_map is_marked o
-    → r ≡ option_map_or is_marked o false
-found None r is = absurd cc
-found (Some f) r is = cc
+found : (p : FunctionTree → Bool) (o : Option FunctionTree) (r : Bool) → Some r ≡ option_map p o
+    → r ≡ option_map_or p o false
+found p None r is = absurd cc
+found p (Some f) r is = cc
+
+-- the same of the transaction of a number
+module _ (p : FunctionTree → Bool) (program : Program) where
+  abbrev tested : ℕ → Bool
+  tested i = option_map_or p (slice_get (transactions_of program.typed) i) false
+
+  found_at : (i : ℕ) (r : Bool)
+      → Some r ≡ option_map p (slice_get (transactions_of program.typed) (suc i - 1))
+      → r ≡ tested i
+  found_at i r is =
+      let before : suc i - 1 ≡ i = omega arith in
+      found p (slice_get (transactions_of program.typed) i) r
+      (subst (λ (j : ℕ). Some r ≡ option_map p (slice_get (transactions_of program.typed) j))
+      before is)
+
+  past_at : (i : ℕ) → length (transactions_of program.typed) < suc i → false ≡ tested i
+  past_at i less =
+      sym (ap (λ (o : Option FunctionTree). option_map_or p o false)
+      (slice_get_past (transactions_of program.typed) i (omega (arith, less))))
 
 pub mark_found : (program : Program) (tx : ℕ) (r : Bool) → 1 ≤ tx
     → Some r ≡ option_map is_marked (slice_get (transactions_of program.typed) (tx - 1))
     → r ≡ rolls_back_of program tx
 mark_found program zero r first is = absurd (omega arith)
-mark_found program (suc i) r first is =
-    let before : suc i - 1 ≡ i = omega arith in
-    found (slice_get (transactions_of program.typed) i) r
-    (subst (λ (j : ℕ). Some r ≡ option_map is_marked (slice_get (transactions_of program.typed) j))
-    before is)
+mark_found program (suc i) r first is = found_at is_marked program i r is
 
 pub mark_first : (program : Program) (tx : ℕ) → tx < 1 → false ≡ rolls_back_of program tx
 mark_first program zero less = refl
@@ -30,8 +46,26 @@ mark_first program (suc i) less = absurd (omega arith)
 pub mark_past : (program : Program) (tx : ℕ) → length (transactions_of program.typed) < tx
     → false ≡ rolls_back_of program tx
 mark_past program zero less = refl
-mark_past program (suc i) less =
-    sym (ap (λ (o : Option FunctionTree). option_map_or is_marked o false)
-    (slice_get_past (transactions_of program.typed) i (omega arith)))
+mark_past program (suc i) less = past_at is_marked program i less
+
+abbrev only_looks : FunctionTree → Bool
+only_looks f = is_const f.mark
+
+pub look_found : (program : Program) (tx : ℕ) (r : Bool) → 1 ≤ tx
+    → Some r ≡ option_map only_looks (slice_get (transactions_of program.typed) (tx - 1))
+    → r ≡ looks_of program tx
+look_found program zero r first is = absurd (omega arith)
+look_found program (suc i) r first is = found_at only_looks program i r is
+
+pub look_first : (program : Program) (tx : ℕ) → tx < 1 → false ≡ looks_of program tx
+look_first program zero less = refl
+look_first program (suc i) less = absurd (omega arith)
+
+pub look_past : (program : Program) (tx : ℕ) → length (transactions_of program.typed) < tx
+    → false ≡ looks_of program tx
+look_past program zero less = refl
+look_past program (suc i) less = past_at only_looks program i less
 
 pub ruleset marks = (mark_found, mark_first, mark_past)
+
+pub ruleset looking = (look_found, look_first, look_past)

@@ -18,6 +18,8 @@ use Rattle.tx_run.specs.Standing.{standing_of, is_number, trap_of_mark}
 use Rattle.tx_run.specs.Called.{Called}
 use Rattle.tx_run.specs.declared.answer.CallAnswer.{CallAnswer}
 use Rattle.tx_run.specs.declared.answer.CallAnswer.TheVariants as called
+use Rattle.tx_run.specs.declared.looking.LookAnswer.{LookAnswer}
+use Rattle.tx_run.specs.declared.looking.LookAnswer.TheVariants as looked
 use Rattle.recovery.specs.declared.answer.RecoverAnswer.{RecoverAnswer}
 use Rattle.recovery.specs.declared.answer.RecoverAnswer.TheVariants as recovered
 use Rattle.c_types.specs.Shapes.{shapes_of}
@@ -28,9 +30,9 @@ use Rattle.cnvm_session.specs.declared.mode.Mode.TheVariants.{Ready, Down, Unusa
 use Rattle.cnvm_session.specs.declared.answer.Answer.{Answer}
 use Rattle.cnvm_session.specs.declared.answer.Answer.TheVariants as answer
 use Rattle.cnvm_session.specs.declared.program.Program.{Program}
-use Rattle.cnvm_session.specs.Marks.{rolls_back_of, policy_of, owes_marked}
-use Rattle.cnvm_session.specs.Outcomes.{RunsBy, answer_of_call, mode_of_call, RecoversBy}
-use Rattle.cnvm_session.specs.Outcomes.{answer_of_recovery}
+use Rattle.cnvm_session.specs.Marks.{rolls_back_of, looks_of, policy_of, owes_marked}
+use Rattle.cnvm_session.specs.Outcomes.{RunsBy, RunsAs, answer_of_call, mode_of_call, RecoversBy}
+use Rattle.cnvm_session.specs.Outcomes.{answer_of_look, answer_of_recovery}
 use Rattle.cnvm_session.specs.Commands.{Refused, Tells, Shows, Lasts, call_number, tx_parameters}
 use Rattle.cnvm_session.specs.Commands.{CallsWith, CallsTo, CallsNamed, Calls, fallen, Powers}
 use Rattle.cnvm_session.specs.Commands.{Commanded}
@@ -100,12 +102,28 @@ runs_kept marks image tx args d a n b k k1 is h =
     (λ off. absurd (subst (λ (x : CallAnswer). IsRefusal (answer_of_call x))
     ((h.called.off off).0) refused))
 
+-- a look is never refused
+no_refusal : (r : LookAnswer) → IsRefusal (answer_of_look r) → ⊥
+no_refusal (looked.Done v) is = is
+no_refusal (looked.Aborted t) is = is
+no_refusal looked.Off is = is
+no_refusal looked.NoMemory is = is
+
+as_kept : (looks marks : Bool) (image : Image) (tx : ℕ) (args : List ℤ) (d : Device) (a : Answer)
+    (n : Mode) (b : Device) (k k1 : ℕ) →
+    IsRefusal a → RunsAs looks marks image tx args d a n b k k1 → Kept Ready d n b k k1
+as_kept true marks image tx args d a n b k k1 is h =
+    absurd (no_refusal h.seen (subst IsRefusal h.answer is))
+as_kept false marks image tx args d a n b k k1 is h =
+    runs_kept marks image tx args d a n b k k1 is h
+
 module _ (program : Program) (args : List ℤ) (d : Device) (a : Answer) (n : Mode) (b : Device)
     (k k1 : ℕ) (is : IsRefusal a) where
   by_count : (same : Bool) (tx : ℕ) → CallsWith same program tx args d a n b k k1 →
       Kept Ready d n b k k1
   by_count true tx h =
-      runs_kept (rolls_back_of program tx) program.image tx args d a n b k k1 is h
+      as_kept (looks_of program tx) (rolls_back_of program tx) program.image tx args d a n b k k1
+      is h
   by_count false tx h = refused_kept answer.RefusedArity Ready d a n b k k1 h
 
   by_parameters : (count : Option ℕ) (tx : ℕ) → CallsTo count program tx args d a n b k k1 →

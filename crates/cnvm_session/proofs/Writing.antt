@@ -12,6 +12,7 @@ use Rattle.cache_model.specs.Cache.{Cache, view, blank}
 use Rattle.cache_model.specs.Play.{apply, play}
 use Rattle.cache_model.proofs.Views.{view_same, view_other, view_flush, view_fence}
 use Rattle.cache_model.proofs.During.{play_append}
+use Rattle.pmem.proofs.Glue.{all_append, part_left, part_right}
 use Rattle.pool_layout.specs.Image.{image_words}
 use Rattle.crash_law.specs.Law.{IsAtRest}
 use Rattle.crash_law.proofs.Rest.{Clean, Nowhere, clean_more, clean_store, clean_flush}
@@ -195,3 +196,6 @@ module _ (words : List ℤ) where
         ∙ play_append c flushes (Fence ∷ [])))
         (fence_rest (play c flushes) (clean_more (From (0 + lines)) Nowhere (play c flushes)
         (λ l d. let more = d.0 in let less = d.1 in omega arith) flushed))
+
+-- events one list after another are played as one list
+pub ruleset joined = (all_append, part_left, part_right)

@@ -1,5 +1,5 @@
 -- Which transactions of a program are marked `abort`, so that a trap rolls them back, and whether a
--- pool owes one of them.
+-- pool owes one of them; and which are marked `const`, so that they only look.
 use Rattle.std.specs.Prelude.{ℕ, zero, suc, Bool, true, false, ◌&&◌, slice_get}
 use Rattle.std.specs.List.{list_any}
 use Rattle.std.specs.Option.{option_map_or}
@@ -11,16 +11,23 @@ use Rattle.pm_machine.specs.declared.records.Policy.TheVariants.{EndPool, RollBa
 use Rattle.recovery.specs.Recovered.{tx_in}
 use Rattle.c_tree.specs.ItemTree.{FunctionTree}
 use Rattle.c_types.specs.Shapes.{transactions_of}
+use Rattle.c_types.specs.Transactions.{is_abort, is_const}
 use Rattle.cnvm_session.specs.declared.program.Program.{Program}
 
 abbrev pub is_marked : FunctionTree → Bool
-is_marked f = f.rolls_back
+is_marked f = is_abort f.mark
 
 -- whether the transaction of that number, counted from 1, is marked; no other number is
 abbrev pub rolls_back_of : Program → (tx : ℕ) → Bool
 rolls_back_of program zero = false
 rolls_back_of program (suc i) =
     option_map_or is_marked (slice_get (transactions_of program.typed) i) false
+
+-- whether the transaction of that number only looks; no other number does
+abbrev pub looks_of : Program → (tx : ℕ) → Bool
+looks_of program zero = false
+looks_of program (suc i) = option_map_or (λ (f : FunctionTree). is_const f.mark)
+    (slice_get (transactions_of program.typed) i) false
 
 -- what becomes of a trap: a marked transaction is rolled back, another one ends the pool
 abbrev pub policy_of : (marked : Bool) → Policy

@@ -1,10 +1,14 @@
 -- How the answer of a call or of a recovery leaves the session, and what the command then answers.
-use Rattle.std.specs.Prelude.{ℕ, ◌≡◌, Bool, true, false, List, ℤ}
+use Rattle.std.specs.Prelude.{ℕ, ◌≡◌, ◌+◌, ◌≤◌, Bool, true, false, List, ℤ}
 use Rattle.pmem.specs.Device.{Device, blanked}
 use Rattle.pmem.specs.Played.{PlaysAll}
 use Rattle.pool_layout.specs.Sizes.{pool_lines}
 use Rattle.pm_machine.specs.declared.image.Image.{Image}
+use Rattle.pmem.specs.declared.answer.Phase.TheVariants as phases
 use Rattle.tx_run.specs.Called.{IsTxCalled}
+use Rattle.tx_run.specs.Looked.{IsLooked}
+use Rattle.tx_run.specs.declared.looking.LookAnswer.{LookAnswer}
+use Rattle.tx_run.specs.declared.looking.LookAnswer.TheVariants as looked
 use Rattle.tx_run.specs.declared.answer.CallAnswer.{CallAnswer}
 use Rattle.tx_run.specs.declared.answer.CallAnswer.TheVariants as called
 use Rattle.recovery.specs.Recovered.{IsRecovered}
@@ -16,7 +20,7 @@ use Rattle.cnvm_session.specs.declared.mode.Mode.TheVariants as mode
 use Rattle.cnvm_session.specs.declared.answer.Answer.{Answer}
 use Rattle.cnvm_session.specs.declared.answer.Answer.TheVariants as answer
 use Rattle.cnvm_session.specs.declared.program.Program.{Program}
-use Rattle.cnvm_session.specs.Marks.{rolls_back_of, policy_of, owes_marked}
+use Rattle.cnvm_session.specs.Marks.{rolls_back_of, looks_of, policy_of, owes_marked}
 
 abbrev pub answer_of_call : CallAnswer → Answer
 answer_of_call (called.Done value logged) = answer.Done value logged
@@ -39,6 +43,19 @@ mode_of_call called.Failed = mode.Down
 mode_of_call (called.Unusable kind) = mode.Unusable kind
 mode_of_call called.Numbers = mode.Ready
 mode_of_call called.NoMemory = mode.Down
+
+-- a look keeps no log, and where it traps nothing is lost
+abbrev pub answer_of_look : LookAnswer → Answer
+answer_of_look (looked.Done value) = answer.Done value 0
+answer_of_look (looked.Aborted kind) = answer.Aborted kind
+answer_of_look looked.Off = answer.Stopped phases.Unsealed
+answer_of_look looked.NoMemory = answer.NoMemory
+
+abbrev pub mode_of_look : LookAnswer → Mode
+mode_of_look (looked.Done value) = mode.Ready
+mode_of_look (looked.Aborted kind) = mode.Ready
+mode_of_look looked.Off = mode.Down
+mode_of_look looked.NoMemory = mode.Down
 
 abbrev pub answer_of_recovery : RecoverAnswer → Answer
 answer_of_recovery recovered.Clean = answer.RecoveredNone
@@ -70,10 +87,26 @@ pub record RunsBy (marked : Bool) (image : Image) (tx : ℕ) (args : List ℤ) (
   pub answer : a ≡ answer_of_call tx_answer
   pub mode : n ≡ mode_of_call tx_answer
 
+-- A call of a transaction that only looks: the device stays as it is.
+pub record Looks (image : Image) (tx : ℕ) (args : List ℤ) (d : Device) (a : Answer) (n : Mode)
+    (b : Device) (k k1 : ℕ) : Type 0 where
+  pub seen : LookAnswer
+  pub looked : IsLooked seen image tx args d k k1
+  pub answer : a ≡ answer_of_look seen
+  pub mode : n ≡ mode_of_look seen
+  pub same : b ≡ d
+  pub most : k1 ≤ k + image.parts.most
+
+-- a call that is accepted, by its marks
+abbrev pub RunsAs : (looks marked : Bool) → Image → (tx : ℕ) → List ℤ → Device → Answer → Mode
+    → Device → (k k1 : ℕ) → Type 0
+RunsAs true marked image tx args d a n b k k1 = Looks image tx args d a n b k k1
+RunsAs false marked image tx args d a n b k k1 = RunsBy marked image tx args d a n b k k1
+
 abbrev pub Runs : Program → (tx : ℕ) → List ℤ → Device → Answer → Mode → Device
     → (k k1 : ℕ) → Type 0
 Runs program tx args d a n b k k1 =
-    RunsBy (rolls_back_of program tx) program.image tx args d a n b k k1
+    RunsAs (looks_of program tx) (rolls_back_of program tx) program.image tx args d a n b k k1
 
 -- A recovery, by whether the pool owes a marked transaction.
 pub record RecoversBy (marked : Bool) (image : Image) (d : Device) (a : Answer) (n : Mode)

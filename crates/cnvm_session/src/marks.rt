@@ -1,9 +1,9 @@
-//! Which transactions are marked `abort`, and whether a pool owes one of them.
+//! Which transactions are marked `abort` or `const`, and whether a pool owes one of the former.
 
 ghost use Rattle.std.specs.Prelude.{◌≡◌, ◌≤◌, true};
 ghost use Rattle.cache_model.specs.Cache.{view};
 ghost use Rattle.pool_layout.specs.Image.{is_sealed};
-ghost use Rattle.cnvm_session.specs.Marks.{rolls_back_of, policy_of, owes_marked};
+ghost use Rattle.cnvm_session.specs.Marks.{rolls_back_of, looks_of, policy_of, owes_marked};
 
 use crate::program::Program;
 use args_log::{PendingAnswer, pending};
@@ -19,6 +19,18 @@ pub fn rolls_back(program: &Program, tx: u64) -> bool
         false
     } else {
         program.typed.rolls_back(tx)
+    }
+}
+
+/// Whether the transaction of that number is marked `const`; no number past the last is.
+#[tactic(auto, using(crate::proofs::Marking::looking))]
+pub fn looks(program: &Program, tx: u64) -> bool
+    ensures { result ≡ looks_of program.now tx }
+{
+    if tx < 1 || program.typed.txs() < tx {
+        false
+    } else {
+        program.typed.looks(tx)
     }
 }
 

@@ -109,7 +109,7 @@ fn flush_lines<P: PmemWork>(dev: &mut P, words: &[i64], lines: u64) -> Result<()
 }
 
 /// Plays the events that write an image.
-#[tactic(auto, using(pmem::proofs::Glue::all_append, pmem::proofs::Glue::part_left, pmem::proofs::Glue::part_right), unfolding(crate::specs::Opening::opening_events))]
+#[tactic(auto, using(crate::proofs::Writing::joined), unfolding(crate::specs::Opening::opening_events))]
 fn play_opening<P: PmemWork>(dev: &mut P, words: &[i64], lines: u64) -> Result<(), Refusal>
     requires lines { lines ≡ (P.device dev.old).lines }
     requires words { length words.now ≡ 8 * lines }

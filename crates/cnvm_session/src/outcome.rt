@@ -2,12 +2,13 @@
 
 ghost use Rattle.std.specs.Prelude.{◌≡◌};
 ghost use Rattle.cnvm_session.specs.Outcomes.{answer_of_call, mode_of_call, answer_of_recovery};
-ghost use Rattle.cnvm_session.specs.Outcomes.{mode_of_recovery};
+ghost use Rattle.cnvm_session.specs.Outcomes.{mode_of_recovery, answer_of_look, mode_of_look};
 
 use crate::answer::Answer;
 use crate::mode::Mode;
+use pmem::Phase;
 use recovery::RecoverAnswer;
-use tx_run::CallAnswer;
+use tx_run::{CallAnswer, LookAnswer};
 
 /// What a command answers after a call.
 #[tactic(auto, using(std::proofs::lemmas::Int::wraps))]
@@ -35,6 +36,29 @@ pub fn mode_of_call(tx_answer: CallAnswer) -> Mode
         CallAnswer::Trap(kind) => Mode::Unusable(kind),
         CallAnswer::Unusable(kind) => Mode::Unusable(kind),
         CallAnswer::Off(_) | CallAnswer::Failed | CallAnswer::NoMemory => Mode::Down,
+    }
+}
+
+/// What a command answers after a look.
+#[tactic(auto, using(std::proofs::lemmas::Int::wraps))]
+pub fn answer_of_look(seen: LookAnswer) -> Answer
+    ensures { result ≡ answer_of_look seen }
+{
+    match seen {
+        LookAnswer::Done(value) => Answer::Done { value, logged: 0 },
+        LookAnswer::Aborted(kind) => Answer::Aborted(kind),
+        LookAnswer::Off => Answer::Stopped(Phase::Unsealed),
+        LookAnswer::NoMemory => Answer::NoMemory,
+    }
+}
+
+/// The mode after a look of a session that was ready.
+pub fn mode_of_look(seen: LookAnswer) -> Mode
+    ensures { result ≡ mode_of_look seen }
+{
+    match seen {
+        LookAnswer::Done(_) | LookAnswer::Aborted(_) => Mode::Ready,
+        LookAnswer::Off | LookAnswer::NoMemory => Mode::Down,
     }
 }
 

@@ -15,17 +15,21 @@ ghost use Rattle.cnvm_session.specs.Unmade.{IsUnmade};
 ghost use Rattle.cnvm_session.specs.Moving.{is_recovered};
 ghost use Rattle.c_types.specs.Shapes.{shapes_of};
 ghost use Rattle.cnvm_session.specs.Marks.{rolls_back_of, owes_marked};
-ghost use Rattle.cnvm_session.specs.Outcomes.{RunsBy, Runs, RecoversBy, Recovers, Opens};
+ghost use Rattle.cnvm_session.specs.Outcomes.{RunsBy, Looks, RunsAs, Runs, RecoversBy, Recovers};
+ghost use Rattle.cnvm_session.specs.Outcomes.{Opens};
 ghost use Rattle.cnvm_session.specs.Steps.{bounded_steps, most_of_command, most_of_program};
 ghost use Rattle.cnvm_session.specs.Commands.{Lasts, Shows, tx_parameters, CallsTo, Calls, fallen};
 ghost use Rattle.cnvm_session.specs.Commands.{Powers, Commanded};
 
 use crate::answer::Answer;
 use crate::creating::{StartFault, create_pool};
-use crate::marks::{owes_marked, policy_of, rolls_back};
+use crate::marks::{looks, owes_marked, policy_of, rolls_back};
 use crate::mode::Mode;
 use crate::opening::open_pool;
-use crate::outcome::{answer_of_call, answer_of_recovery, mode_of_call, mode_of_recovery};
+use crate::outcome::{
+    answer_of_call, answer_of_look, answer_of_recovery, mode_of_call, mode_of_look,
+    mode_of_recovery,
+};
 use crate::program::Program;
 use crate::showing::pool_text;
 use cache_model::{Choice, Pick};
@@ -38,7 +42,7 @@ use recovery::recover_with;
 use std::alloc::Global;
 use std::marker::Model;
 use std::sync::ledger::Ledger;
-use tx_run::call;
+use tx_run::{call, look};
 
 /// A pool of a program and whether it takes calls, seen as the latter. The pool's words are on the
 /// device. The machine of a call is kept for the next.
@@ -188,8 +192,8 @@ pub fn first_fallen(picks: &[Pick]) -> Option<u64>
 impl Session {
     /// Does a command of the script, and gives its answer. A choice whose picks don't rise is
     /// refused with the first pick that doesn't; no script gives one. A transaction that the image
-    /// doesn't have is unknown. One that is marked `abort` and traps is undone, and the session
-    /// stays ready.
+    /// doesn't have is unknown. One that is marked `abort` and traps is undone, and one that is
+    /// marked `const` only looks; the session stays ready.
     pub fn command<P: Pmem, L: Ledger>(
         &mut self,
         alloc: Global,
@@ -306,7 +310,8 @@ impl Session {
         ensures most { steps.new ≤ steps.old + bounded_steps false program.now.image }
         ensures lines { (P.device dev.new).lines ≡ (P.device dev.old).lines }
     {
-        self.run_by(
+        self.run_as(
+            looks(program, tx),
             rolls_back(program, tx),
             alloc,
             &program.image,
@@ -315,6 +320,62 @@ impl Session {
             dev,
             steps,
         )
+    }
+
+    /// Runs a call, by its transaction's marks.
+    #[tactic(auto, using(crate::proofs::Bounding::look_ends))]
+    fn run_as<P: PmemWork, L: Ledger>(
+        &mut self,
+        only_looks: bool,
+        marked: bool,
+        alloc: Global,
+        image: &Image,
+        tx: u64,
+        args: &[i64],
+        dev: &mut P,
+        steps: &mut Steps<L>,
+    ) -> Answer
+        requires first { 1 ≤ tx }
+        requires last { tx ≤ length image.now.parts.txs }
+        requires lines { (P.device dev.old).lines ≡ pool_lines image.now.parts.sizes }
+        ensures runs { RunsAs only_looks marked image.now tx args.now (P.device dev.old) result
+            self.new (P.device dev.new) steps.old steps.new }
+        ensures count { (P.device dev.old).faults ≤ (P.device dev.new).faults }
+        ensures fault { result ≡ Answer.DeviceFault
+            → FaultsRose (P.device dev.old).faults (P.device dev.new).faults }
+        ensures most { steps.new ≤ steps.old + bounded_steps false image.now }
+        ensures lines { (P.device dev.new).lines ≡ (P.device dev.old).lines }
+    {
+        if only_looks {
+            self.look(alloc, image, tx, args, dev, steps)
+        } else {
+            self.run_by(marked, alloc, image, tx, args, dev, steps)
+        }
+    }
+
+    /// Runs a transaction that only looks.
+    #[tactic(auto, using(crate::proofs::Calls::look_no_fault))]
+    fn look<P: PmemWork, L: Ledger>(
+        &mut self,
+        alloc: Global,
+        image: &Image,
+        tx: u64,
+        args: &[i64],
+        dev: &mut P,
+        steps: &mut Steps<L>,
+    ) -> Answer
+        requires first { 1 ≤ tx }
+        requires last { tx ≤ length image.now.parts.txs }
+        requires lines { (P.device dev.old).lines ≡ pool_lines image.now.parts.sizes }
+        ensures looks { Looks image.now tx args.now (P.device dev.old) result self.new
+            (P.device dev.new) steps.old steps.new }
+        ensures same { P.device dev.new ≡ P.device dev.old }
+        ensures fault { result ≡ Answer.DeviceFault → ⊥ }
+        ensures most { steps.new ≤ steps.old + image.now.parts.most }
+    {
+        let seen = look(alloc, &mut self.spare, image, tx, args, dev, steps);
+        self.mode = mode_of_look(seen);
+        answer_of_look(seen)
     }
 
     /// Runs a call, by whether its transaction is marked.

@@ -16,12 +16,12 @@ use Rattle.cnvm_session.specs.declared.answer.Answer.{Answer}
 use Rattle.cnvm_session.specs.declared.answer.Answer.TheVariants as answer
 use Rattle.cnvm_session.specs.declared.program.Program.{Program}
 use Rattle.cnvm_session.specs.Commands.{call_number}
-use Rattle.cnvm_session.specs.Marks.{rolls_back_of}
-use Rattle.session_law.specs.Source.{source_parameters, ComesBy}
+use Rattle.cnvm_session.specs.Marks.{rolls_back_of, looks_of}
+use Rattle.session_law.specs.Source.{source_parameters, means, ComesBy}
 use Rattle.session_law.specs.State.{Pending, Standing, Ready, Down, Unusable, SourceState}
 use Rattle.session_law.specs.State.{standing_as, done_with, undone_as}
-use Rattle.session_law.specs.Answers.{Refused, RunsBy, CallsWith, CallsTo, CallsNamed, Calls}
-use Rattle.session_law.specs.Answers.{Tells}
+use Rattle.session_law.specs.Answers.{Refused, RunsBy, Looks, RunsAs, CallsWith, CallsTo}
+use Rattle.session_law.specs.Answers.{CallsNamed, Calls, Tells}
 use Rattle.session_law.specs.Answers.{Shows, Lasts, ConcludesAs, IsConcluded, FindsOf, FindsOwed}
 use Rattle.session_law.specs.Answers.{Rests, RedoesBy, Recovers, IsMarked, Powers}
 use Rattle.session_law.proofs.Logging.{one_outcome}
@@ -199,8 +199,49 @@ module _ (program : Program) (s : SourceState) (image : Words) where
         (outcome_one (call_answer marked) (call_state marked s) marked program s.pool tx args) a b
         t u (runs_split marked a t x) (runs_split marked b u y) kinds
 
+    -- a call that only looks: what the transaction comes to decides
+    abbrev look_answer : Outcome → Answer
+    look_answer (Done pool value) = answer.Done value 0
+    look_answer (Trap kind) = answer.Aborted kind
+
+    abbrev IsLook : Answer → SourceState → Type 0
+    IsLook a t = (a ≡ look_answer (means program s.pool tx args)) × (t ≡ s)
+
+    looks_split : (a : Answer) (t : SourceState) → Looks program s tx args a t
+        → Splits IsLook (λ k. standing_as (Down None) s) a t
+    looks_split answer.Silent t h = absurd h
+    looks_split (answer.Done value logged) t h =
+        inl (tt, (ap (answer.Done value) h.1 ∙ sym (ap look_answer h.0), h.2))
+    looks_split (answer.Trap kind) t h = absurd h
+    looks_split (answer.Aborted kind) t h = inl (tt, (sym (ap look_answer h.0), h.1))
+    looks_split (answer.Stopped at) t h = absurd h
+    looks_split answer.DeviceFault t h = absurd h
+    looks_split answer.RecoveredNone t h = absurd h
+    looks_split (answer.RecoveredRedone value logged) t h = absurd h
+    looks_split (answer.RecoveredTrap kind) t h = absurd h
+    looks_split (answer.RecoveredAborted kind) t h = absurd h
+    looks_split (answer.Shown text) t h = absurd h
+    looks_split (answer.Last n value) t h = absurd h
+    looks_split answer.NoMemory t h = inr ((λ is. is), h)
+    looks_split answer.RefusedDown t h = absurd h
+    looks_split (answer.RefusedUnusable kind) t h = absurd h
+    looks_split answer.RefusedUnknown t h = absurd h
+    looks_split answer.RefusedArity t h = absurd h
+    looks_split answer.RefusedNumbers t h = absurd h
+    looks_split (answer.RefusedPick line) t h = absurd h
+
+    looks_one : IsOne (Looks program s tx args)
+    looks_one a b t u x y kinds =
+        split_one IsLook (λ k. standing_as (Down None) s)
+        (λ v w f g first second. (first.0 ∙ sym second.0, first.1 ∙ sym second.1)) a b t u
+        (looks_split a t x) (looks_split b u y) kinds
+
+    any_one : (looks marked : Bool) → IsOne (RunsAs looks marked program s image tx args)
+    any_one true marked = looks_one
+    any_one false marked = runs_one marked
+
     with_one : (same : Bool) → IsOne (CallsWith same program s image tx args)
-    with_one true = runs_one (rolls_back_of program tx)
+    with_one true = any_one (looks_of program tx) (rolls_back_of program tx)
     with_one false = refused_one answer.RefusedArity s
 
     to_one : (count : Option ℕ) → IsOne (CallsTo count program s image tx args)

@@ -14,7 +14,7 @@ use Rattle.cnvm_session.specs.declared.answer.Answer.{Answer}
 use Rattle.cnvm_session.specs.declared.program.Program.{Program}
 use Rattle.cnvm_session.specs.Commands as commanded
 use Rattle.cnvm_session.specs.Commands.{call_number, tx_parameters}
-use Rattle.cnvm_session.specs.Marks.{rolls_back_of}
+use Rattle.cnvm_session.specs.Marks.{rolls_back_of, looks_of}
 use Rattle.cnvm_session.specs.Outcomes.{answer_of_call}
 use Rattle.cnvm_session.specs.Outcomes as outcomes
 use Rattle.cnvm_session.specs.Pool.{sizes_of}
@@ -25,6 +25,7 @@ use Rattle.session_law.specs.Holds.{IsResting, HoldsAs}
 use Rattle.session_law.specs.Law.{RanToEnd, TakesBy, CallStepsLaw}
 use Rattle.session_law.proofs.Reading.{numbers_small, stands_ready, stands_numbers}
 use Rattle.session_law.proofs.Calls.{call_counts}
+use Rattle.session_law.proofs.Looking.{look_takes}
 
 module _ (program : Program) (super : Words) (agrees : Agrees program)
     (d b : Device) (s : SourceState) (resting : IsResting program super d s)
@@ -57,12 +58,20 @@ module _ (program : Program) (super : Words) (agrees : Agrees program)
           absurd (subst (λ (r : CallAnswer). RanToEnd (answer_of_call r)) same
           (subst RanToEnd is.answer run))
 
+  by_marks : tx_parameters program.image tx ≡ Some (length args) → (looks marked : Bool) →
+      looks_of program tx ≡ looks → rolls_back_of program tx ≡ marked →
+      outcomes.RunsAs looks marked program.image tx args d a n b k k1 → Taken marked
+  by_marks takes true marked look mark is =
+      look_takes program super agrees d s resting tx args takes words look marked is.seen k k1
+      (subst RanToEnd is.answer run) is.looked
+  by_marks takes false marked look mark is = by_mark takes marked mark is
+
   by_count : (count : ℕ) (same : Bool) → (count == length args) ≡ same
       → tx_parameters program.image tx ≡ Some count
       → commanded.CallsWith same program tx args d a n b k k1 → Taken (rolls_back_of program tx)
   by_count count true same takes h =
-      by_mark (takes ∙ ap (λ (i : ℕ). Some i) (eqb-true count (length args) same))
-      (rolls_back_of program tx) refl h
+      by_marks (takes ∙ ap (λ (i : ℕ). Some i) (eqb-true count (length args) same))
+      (looks_of program tx) (rolls_back_of program tx) refl refl h
   by_count count false same takes h = absurd (subst RanToEnd h.0 run)
 
   by_parameters : (count : Option ℕ) → tx_parameters program.image tx ≡ count

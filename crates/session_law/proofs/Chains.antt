@@ -18,8 +18,9 @@ use Rattle.session_law.specs.Source.{source_pool}
 use Rattle.session_law.specs.Agrees.{Agrees}
 use Rattle.session_law.specs.State.{Pending, Standing, Ready, SourceState}
 use Rattle.session_law.specs.Holds.{HoldsAs, Holds}
-use Rattle.session_law.specs.History.{recovered_by, LeadsTo, call_to, call_in, calls_in, called_by}
-use Rattle.session_law.specs.History.{done_by, history_after, answered_by, answered_in, IsPart}
+use Rattle.session_law.specs.History.{recovered_by, LeadsTo, call_to, counted, call_in, calls_in}
+use Rattle.session_law.specs.History.{called_by, done_by, history_after, answered_by, answered_in}
+use Rattle.session_law.specs.History.{IsPart}
 use Rattle.session_law.specs.Ran.{found_by, Moment, SessionStep, Ran, fresh_moment, OpenStep}
 use Rattle.session_law.specs.Opened.{opened}
 use Rattle.session_law.specs.Law.{SessionLaw, IsWordCommand, RunsAll, SessionRunLaw, KeptLaw}
@@ -102,7 +103,7 @@ chain_kept program super (c ∷ commands) (a ∷ answers) x y holds ran =
 answered_done : (program : Program) (s : SourceState) (image : Words) (c : Command) (a : Answer) →
     IsPart (answered_by program c a) (done_by program s image c a)
 answered_done program s image (command.Call name args) a =
-    part_same (called_by (call_to (call_number program name) args) a)
+    part_same (called_by (call_to (counted program (call_number program name)) args) a)
 answered_done program s image (command.Power choice) a =
     part_none (done_by program s image (command.Power choice) a)
 answered_done program s image (command.Stop left) a = refl

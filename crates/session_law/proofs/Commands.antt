@@ -26,7 +26,8 @@ use Rattle.cnvm_session.specs.declared.program.Program.{Program}
 use Rattle.pm_machine.specs.HeapPool.{heap_of}
 use Rattle.cnvm_session.specs.Commands as commanded
 use Rattle.cnvm_session.specs.Outcomes as outcomes
-use Rattle.cnvm_session.specs.Marks.{rolls_back_of, policy_of}
+use Rattle.cnvm_session.specs.Outcomes.{mode_of_look}
+use Rattle.cnvm_session.specs.Marks.{rolls_back_of, looks_of, policy_of}
 use Rattle.cnvm_session.specs.Commands.{call_number, tx_parameters}
 use Rattle.cnvm_session.specs.Pool.{sizes_of}
 use Rattle.session_law.specs.Source.{source_pool}
@@ -34,13 +35,14 @@ use Rattle.session_law.specs.Words.{AreWords}
 use Rattle.session_law.specs.Agrees.{Agrees}
 use Rattle.session_law.specs.State.{Pending, Standing, Ready, Down, Unusable, SourceState}
 use Rattle.session_law.specs.State.{standing_as}
-use Rattle.session_law.specs.Answers.{Refused, RunsBy, CallsWith, CallsTo}
+use Rattle.session_law.specs.Answers.{Refused, RunsBy, Looks, RunsAs, CallsWith, CallsTo}
 use Rattle.session_law.specs.Answers.{CallsNamed, Calls, Tells, Shows, Lasts}
-use Rattle.session_law.specs.Holds.{HoldsPool, IsResting, OwesNone, OwesBy, HoldsAs, Holds}
+use Rattle.session_law.specs.Holds.{HoldsPool, IsResting, OwesBy, HoldsAs, Holds}
 use Rattle.session_law.specs.Law.{SessionLaw}
 use Rattle.session_law.proofs.Heaps.{pool_same, shown_same, pool_fits}
-use Rattle.session_law.proofs.Resting.{resting_owes}
+use Rattle.session_law.proofs.Resting.{resting_down}
 use Rattle.session_law.proofs.Calls.{call_runs}
+use Rattle.session_law.proofs.Looking.{look_runs}
 use Rattle.session_law.proofs.Powers.{power_answers}
 
 module _ (program : Program) (super : Words) where
@@ -136,13 +138,35 @@ module _ (program : Program) (super : Words) where
           subst (λ (x : Mode). Holds program super x b done.0) (sym h.mode) done.2,
         )
 
+    by_look : (tx : ℕ) → tx_parameters program.image tx ≡ Some (length args) →
+        looks_of program tx ≡ true →
+        outcomes.Looks program.image tx args d a n b k k1 →
+        (t : SourceState) × Looks program s tx args a t × Holds program super n b t
+    by_look tx exact looks h =
+        let done = look_runs program super agrees d s resting tx args exact words looks ready h.seen
+        k k1 h.looked in (
+          done.0,
+          subst (λ (x : Answer). Looks program s tx args x done.0) (sym h.answer) done.1,
+          subst (λ (x : Mode). Holds program super x b done.0) (sym h.mode)
+              (subst (λ (x : Device). Holds program super (mode_of_look h.seen) x done.0)
+              (sym h.same) done.2),
+        )
+
+    by_marks : (tx : ℕ) → tx_parameters program.image tx ≡ Some (length args) →
+        (looks marked : Bool) → looks_of program tx ≡ looks → rolls_back_of program tx ≡ marked →
+        outcomes.RunsAs looks marked program.image tx args d a n b k k1 →
+        (t : SourceState) × RunsAs looks marked program s (view d.cache) tx args a t
+        × Holds program super n b t
+    by_marks tx exact true marked looks mark h = by_look tx exact looks h
+    by_marks tx exact false marked looks mark h = by_mark tx exact marked mark h
+
     by_count : (tx count : ℕ) (same : Bool) → (count == length args) ≡ same
         → tx_parameters program.image tx ≡ Some count
         → commanded.CallsWith same program tx args d a n b k k1 → (t : SourceState)
         × CallsWith same program s (view d.cache) tx args a t × Holds program super n b t
     by_count tx count true same takes h =
-        by_mark tx (takes ∙ ap (λ (c : ℕ). Some c) (eqb-true count (length args) same))
-        (rolls_back_of program tx) refl h
+        by_marks tx (takes ∙ ap (λ (c : ℕ). Some c) (eqb-true count (length args) same))
+        (looks_of program tx) (rolls_back_of program tx) refl refl h
     by_count tx count false same takes h =
         refused_as answer.RefusedArity mode.Ready n d b s a k k1 at_ready h
 
@@ -205,22 +229,8 @@ module _ (program : Program) (super : Words) where
     tells_as : (a : Answer) → commanded.Tells (shapes_of program.typed) (sizes_of program) d a n
         → (t : SourceState) × Tells program s a t × Holds program super n d t
     tells_as (answer.Shown text) h = (s, (text_as text h, refl), ready_as h.1)
-    tells_as answer.NoMemory h = (standing_as (Down None) s, refl, (h, down_now))
-      where
-        owes : OwesNone program super d s
-        owes = resting_owes program super d s resting
-
-        down_now : OwesNone program super d (standing_as (Down None) s)
-        down_now = record {
-          heap = owes.heap;
-          holds =
-              record {
-                headers = owes.holds.headers;
-                pool = owes.holds.pool;
-                words = owes.holds.words;
-              };
-          left = owes.left;
-        }
+    tells_as answer.NoMemory h =
+        (standing_as (Down None) s, refl, (h, resting_down program super d s resting))
     tells_as answer.Silent h = absurd h
     tells_as (answer.Done v l) h = absurd h
     tells_as (answer.Trap t) h = absurd h

@@ -24,6 +24,8 @@ use Rattle.tx_run.specs.declared.standing.Standing as stands
 use Rattle.tx_run.specs.Called.{Called, IsTxCalled}
 use Rattle.tx_run.specs.declared.answer.CallAnswer.{CallAnswer}
 use Rattle.tx_run.specs.declared.answer.CallAnswer.TheVariants as called
+use Rattle.tx_run.specs.declared.looking.LookAnswer.{LookAnswer}
+use Rattle.tx_run.specs.declared.looking.LookAnswer.TheVariants as looked
 use Rattle.recovery.specs.Recovered.{Cleaned, Redid, IsRecovered, numbers_out, tx_in}
 use Rattle.recovery.specs.Found.{names_tx}
 use Rattle.recovery.specs.declared.answer.RecoverAnswer.{RecoverAnswer}
@@ -35,14 +37,16 @@ use Rattle.cnvm_session.specs.declared.mode.Mode.TheVariants as mode
 use Rattle.cnvm_session.specs.declared.answer.Answer.{Answer}
 use Rattle.cnvm_session.specs.declared.answer.Answer.TheVariants as answer
 use Rattle.cnvm_session.specs.declared.program.Program.{Program}
-use Rattle.cnvm_session.specs.Marks.{rolls_back_of, policy_of, owes_marked}
+use Rattle.cnvm_session.specs.Marks.{rolls_back_of, looks_of, policy_of, owes_marked}
 use Rattle.cnvm_session.specs.Commands as commanded
 use Rattle.cnvm_session.specs.Commands.{fallen, call_number, tx_parameters}
-use Rattle.cnvm_session.specs.Outcomes.{answer_of_call, answer_of_recovery, RunsBy, RecoversBy}
+use Rattle.cnvm_session.specs.Outcomes.{answer_of_call, answer_of_look, answer_of_recovery, RunsBy}
+use Rattle.cnvm_session.specs.Outcomes.{RunsAs, RecoversBy}
 use Rattle.session_law.specs.State.{Standing, Ready, Down, Unusable, SourceState}
 use Rattle.session_law.specs.Holds.{HoldsAs}
 use Rattle.session_law.specs.Ends.{IsSafe, IsInterrupted, ArmsNothing, UninterruptedLaw}
 use Rattle.session_law.specs.Ends.{IsRecoveryEnd, RecoveryEndsLaw}
+use Rattle.session_law.proofs.Looking.{look_is_on}
 
 -- the device takes each event: it is on, and nothing is armed
 abbrev TakesAll : Device → Type 0
@@ -146,6 +150,22 @@ runs_well : (marked : Bool) (image : Image) (tx : ℕ) (args : List ℤ) (d b : 
 runs_well marked image tx args d b k k1 takes a n runs =
     subst (λ (x : Answer). EndsWell x b) (sym runs.answer)
     (tx_well (policy_of marked) image tx args d b k k1 takes runs.tx_answer runs.called)
+
+-- nor is a look interrupted
+look_ends : (r : LookAnswer) → (r ≡ looked.Off → ⊥) → IsInterrupted (answer_of_look r) → ⊥
+look_ends (looked.Done v) on is = is
+look_ends (looked.Aborted kind) on is = is
+look_ends looked.Off on is = on refl
+look_ends looked.NoMemory on is = is
+
+any_well : (looks marked : Bool) (image : Image) (tx : ℕ) (args : List ℤ) (d b : Device) (k k1 : ℕ)
+    → TakesAll d → (a : Answer) (n : Mode) → RunsAs looks marked image tx args d a n b k k1
+    → EndsWell a b
+any_well true marked image tx args d b k k1 takes a n is =
+    as_it_was a (answer_of_look is.seen) d b takes.1 is.answer is.same
+    (look_ends is.seen (look_is_on is.seen image tx args d k k1 takes.0 is.looked))
+any_well false marked image tx args d b k k1 takes a n is =
+    runs_well marked image tx args d b k k1 takes a n is
 
 module _ (p : Policy) (image : Image) (d b : Device) (k k1 : ℕ) (takes : TakesAll d) where
   cleaned_well : (es : List CacheEvent) (r : RecoverAnswer) → Cleaned r d es b
@@ -254,7 +274,8 @@ module _ (program : Program) (a : Answer) (n : Mode) (b : Device) (k k1 : ℕ) w
     by_count : (tx : ℕ) (x : Bool) → commanded.CallsWith x program tx args d a n b k k1
         → EndsWell a b
     by_count tx true h =
-        runs_well (rolls_back_of program tx) program.image tx args d b k k1 takes a n h
+        any_well (looks_of program tx) (rolls_back_of program tx) program.image tx args d b k k1
+        takes a n h
     by_count tx false h = refused_well answer.RefusedArity mode.Ready d takes.1 no h
 
     by_parameters : (tx : ℕ) (x : Option ℕ) → commanded.CallsTo x program tx args d a n b k k1

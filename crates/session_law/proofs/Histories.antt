@@ -14,15 +14,18 @@ use Rattle.cnvm_session.specs.declared.answer.Answer.{Answer}
 use Rattle.cnvm_session.specs.declared.answer.Answer.TheVariants as answer
 use Rattle.cnvm_session.specs.declared.program.Program.{Program}
 use Rattle.cnvm_session.specs.Commands.{call_number}
-use Rattle.cnvm_session.specs.Marks.{rolls_back_of}
+use Rattle.cnvm_session.specs.Marks.{rolls_back_of, looks_of}
 use Rattle.session_law.specs.Source.{source_parameters}
 use Rattle.session_law.specs.State.{Pending, Standing, Ready, Down, Unusable, SourceState}
 use Rattle.session_law.specs.State.{standing_as}
-use Rattle.session_law.specs.Answers.{Refused, ConcludesAs, IsConcluded, Runs, CallsWith, CallsTo}
+use Rattle.session_law.specs.Answers.{Refused, ConcludesAs, IsConcluded, RunsBy, Looks, RunsAs}
+use Rattle.session_law.specs.Answers.{CallsWith, CallsTo}
 use Rattle.session_law.specs.Answers.{CallsNamed, Calls, Tells, Shows, Lasts, FindsOf, FindsOwed}
 use Rattle.session_law.specs.Answers.{Rests, Redoes, Recovers, Powers, Answers}
-use Rattle.session_law.specs.History.{LeavesPool, LeadsTo, waiting_of, call_to, call_in, called_by}
-use Rattle.session_law.specs.History.{is_retired, recovered_by, done_by, IsPart, HasDone}
+use Rattle.session_law.specs.History.{LeavesPool, LeadsTo, waiting_of, call_to, counted, call_in}
+use Rattle.session_law.specs.History.{called_by, is_retired, recovered_by, done_by, IsPart}
+use Rattle.session_law.specs.History.{HasDone}
+use Rattle.session_law.proofs.Looking.{looked_state}
 
 -- parts of lists
 
@@ -147,6 +150,28 @@ module _ (program : Program) where
             (sym (ap waiting_of counts.1 ∙ none)) part;
       }
 
+  -- where no call counts, none does
+  pub none_counts : (a : Answer) → called_by [] a ≡ []
+  none_counts (answer.Done value logged) = refl
+  none_counts (answer.Aborted kind) = refl
+  none_counts (answer.Trap kind) = refl
+  none_counts (answer.Stopped p) = refl
+  none_counts answer.DeviceFault = refl
+  none_counts answer.NoMemory = refl
+  none_counts answer.Silent = refl
+  none_counts answer.RecoveredNone = refl
+  none_counts (answer.RecoveredRedone value logged) = refl
+  none_counts (answer.RecoveredTrap kind) = refl
+  none_counts (answer.RecoveredAborted kind) = refl
+  none_counts (answer.Shown text) = refl
+  none_counts (answer.Last n value) = refl
+  none_counts answer.RefusedDown = refl
+  none_counts (answer.RefusedUnusable kind) = refl
+  none_counts answer.RefusedUnknown = refl
+  none_counts answer.RefusedArity = refl
+  none_counts answer.RefusedNumbers = refl
+  none_counts (answer.RefusedPick line) = refl
+
   -- a refused command does nothing
   refused_done : (s t : SourceState) (why a : Answer) (calls : List Pending)
       → called_by calls why ≡ [] →
@@ -173,7 +198,8 @@ module _ (program : Program) where
     cut tx is = only_standing s t (Down (Some (record { tx = tx; args = args }))) (called tx) is
         (right tx)
 
-    runs_done : (tx : ℕ) (a : Answer) → Runs program s image tx args a t →
+    runs_done : (tx : ℕ) (a : Answer) →
+        RunsBy (rolls_back_of program tx) program s image tx args a t →
         HasDone program s t (called_by (called tx) a) (called tx)
     runs_done tx (answer.Done value logged) is =
         one_finished s t (call tx) Ready (called tx) refl
@@ -201,34 +227,59 @@ module _ (program : Program) where
     runs_done tx answer.RefusedArity is = absurd is
     runs_done tx (answer.RefusedPick line) is = absurd is
 
+    -- a look does nothing
+    look_done : (tx : ℕ) (a : Answer) → Looks program s tx args a t →
+        HasDone program s t (called_by [] a) []
+    look_done tx a is =
+        subst (λ (ds : List Pending). HasDone program s t ds []) (sym (none_counts a))
+        (⊎_elim (λ same. same_done s t [] same)
+        (λ down. only_standing s t (Down None) [] down.1 (part_none (waiting_of s.standing ++ [])))
+        (looked_state program s t tx args a is))
+
+    -- what a call counts, by whether it only looks
+    abbrev counts_by : Bool → ℕ → List Pending
+    counts_by looks tx = call_to (if looks then None else Some tx) args
+
+    any_done : (tx : ℕ) (looks : Bool) (a : Answer) →
+        RunsAs looks (rolls_back_of program tx) program s image tx args a t →
+        HasDone program s t (called_by (counts_by looks tx) a) (counts_by looks tx)
+    any_done tx true a is = look_done tx a is
+    any_done tx false a is = runs_done tx a is
+
+    abbrev counts : ℕ → List Pending
+    counts tx = counts_by (looks_of program tx) tx
+
     with_done : (tx : ℕ) (same : Bool) (a : Answer) →
         CallsWith same program s image tx args a t →
-        HasDone program s t (called_by (called tx) a) (called tx)
-    with_done tx true a is = runs_done tx a is
-    with_done tx false a is = refused_done s t answer.RefusedArity a (called tx) refl is
+        HasDone program s t (called_by (counts tx) a) (counts tx)
+    with_done tx true a is = any_done tx (looks_of program tx) a is
+    with_done tx false a is = refused_done s t answer.RefusedArity a (counts tx) refl is
 
     to_done : (tx : ℕ) (count : Option ℕ) (a : Answer) →
         CallsTo count program s image tx args a t →
-        HasDone program s t (called_by (called tx) a) (called tx)
-    to_done tx None a is = refused_done s t answer.RefusedUnknown a (called tx) refl is
+        HasDone program s t (called_by (counts tx) a) (counts tx)
+    to_done tx None a is = refused_done s t answer.RefusedUnknown a (counts tx) refl is
     to_done tx (Some count) a is = with_done tx (count == length args) a is
 
     named_done : (number : Option ℕ) (a : Answer) →
         CallsNamed number program s image args a t →
-        HasDone program s t (called_by (call_to number args) a) (call_to number args)
+        HasDone program s t (called_by (call_to (counted program number) args) a)
+        (call_to (counted program number) args)
     named_done None a is = refused_done s t answer.RefusedUnknown a [] refl is
     named_done (Some tx) a is = to_done tx (source_parameters program tx) a is
 
     calls_done : (st : Standing) (name : List ℕ) (a : Answer) →
         Calls st program s image name args a t →
-        HasDone program s t (called_by (call_to (call_number program name) args) a)
-        (call_to (call_number program name) args)
+        HasDone program s t
+        (called_by (call_to (counted program (call_number program name)) args) a)
+        (call_to (counted program (call_number program name)) args)
     calls_done Ready name a is = named_done (call_number program name) a is
     calls_done (Down owed) name a is =
-        refused_done s t answer.RefusedDown a (call_to (call_number program name) args) refl is
+        refused_done s t answer.RefusedDown a
+        (call_to (counted program (call_number program name)) args) refl is
     calls_done (Unusable kind) name a is =
-        refused_done s t (answer.RefusedUnusable kind) a (call_to (call_number program name) args)
-        refl is
+        refused_done s t (answer.RefusedUnusable kind) a
+        (call_to (counted program (call_number program name)) args) refl is
 
   -- what a power cut leaves owed is a part of what was owed
 

@@ -27,7 +27,7 @@ use Rattle.cnvm_session.specs.declared.mode.Mode.TheVariants as mode
 use Rattle.cnvm_session.specs.declared.answer.Answer.{Answer}
 use Rattle.cnvm_session.specs.declared.answer.Answer.TheVariants as answer
 use Rattle.cnvm_session.specs.declared.program.Program.{Program}
-use Rattle.cnvm_session.specs.Marks.{rolls_back_of, policy_of}
+use Rattle.cnvm_session.specs.Marks.{rolls_back_of, looks_of, policy_of}
 use Rattle.cnvm_session.specs.Outcomes.{answer_of_call}
 use Rattle.cnvm_session.specs.Outcomes as outcomes
 use Rattle.cnvm_session.specs.Commands as commanded
@@ -37,7 +37,7 @@ use Rattle.session_law.specs.Words.{AreWords}
 use Rattle.session_law.specs.Agrees.{Agrees}
 use Rattle.session_law.specs.State.{Pending, Standing, Ready, Down, Unusable, SourceState}
 use Rattle.session_law.specs.State.{standing_as, undone_as}
-use Rattle.session_law.specs.Answers.{RunsBy, CallsWith, CallsTo}
+use Rattle.session_law.specs.Answers.{RunsBy, RunsAs, CallsWith, CallsTo}
 use Rattle.session_law.specs.Answers.{CallsNamed, Calls, Tells, Shows, Lasts, Powers, Answers}
 use Rattle.session_law.specs.Holds.{IsResting, HoldsAs, Holds}
 use Rattle.session_law.specs.History.{done_by}
@@ -48,6 +48,7 @@ use Rattle.session_law.proofs.Ones.{left_rest}
 use Rattle.session_law.proofs.Reading.{numbers_small, stands_ready, stands_numbers}
 use Rattle.session_law.proofs.Restoring.{Restores, KeepsIn}
 use Rattle.session_law.proofs.Calls.{call_keeps, call_restores}
+use Rattle.session_law.proofs.Looking.{looked_state}
 use Rattle.session_law.proofs.Powers.{left_images, left_held}
 use Rattle.session_law.proofs.Histories.{answer_done}
 use Rattle.session_law.proofs.Chains.{chain_kept}
@@ -187,13 +188,23 @@ module _ (program : Program) (super : Words) (agrees : Agrees program) (h : Word
           (subst (λ (x : Answer). RunsBy marked program s image tx args x t) did.answer runs)
           (subst (λ (x : Answer). FinishesNone s x t) did.answer none)
 
+      by_marks : (looks marked : Bool) → rolls_back_of program tx ≡ marked
+          → outcomes.RunsAs looks marked program.image tx args d a n b k k1
+          → RunsAs looks marked program s image tx args a t → Kept s b t
+      by_marks true marked mark did runs =
+          ⊎_elim (λ same. stays same did.same)
+          (λ down. leaf program super agrees h s t (standing_as (Down None) s) b down.1 refl refl
+          (subst (Images (Restores program h)) (sym (ap (λ (x : Device). x.cache) did.same)) keeps))
+          (looked_state program s t tx args a runs)
+      by_marks false marked mark did runs = by_mark marked mark did runs
+
     by_count : (tx count : ℕ) (same : Bool) → (count == length args) ≡ same
         → tx_parameters program.image tx ≡ Some count
         → commanded.CallsWith same program tx args d a n b k k1
         → CallsWith same program s image tx args a t → Kept s b t
     by_count tx count true same takes did calls =
-        by_mark tx (takes ∙ ap (λ (i : ℕ). Some i) (eqb-true count (length args) same))
-        (rolls_back_of program tx) refl did calls
+        by_marks tx (takes ∙ ap (λ (i : ℕ). Some i) (eqb-true count (length args) same))
+        (looks_of program tx) (rolls_back_of program tx) refl did calls
     by_count tx count false same takes did calls = stays calls.1 did.2
 
     by_parameters : (tx : ℕ) (count : Option ℕ) → tx_parameters program.image tx ≡ count

@@ -12,6 +12,7 @@ pub mod Reading
 pub mod Restoring
 pub mod Exact
 pub mod Resting
+pub mod Looking
 pub mod Calls
 pub mod Recoveries
 pub mod Powers
@@ -31,3 +32,4 @@ pub mod Chains
 pub mod Unchanged
 pub mod Bounded
 pub mod Ending
+pub mod LookedAt

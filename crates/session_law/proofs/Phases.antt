@@ -48,7 +48,7 @@ use Rattle.cnvm_session.specs.declared.answer.Answer.TheVariants as answer
 use Rattle.cnvm_session.specs.declared.program.Program.{Program}
 use Rattle.cnvm_session.specs.Outcomes.{answer_of_call}
 use Rattle.cnvm_session.specs.Outcomes as commanded_by
-use Rattle.cnvm_session.specs.Marks.{rolls_back_of, policy_of}
+use Rattle.cnvm_session.specs.Marks.{rolls_back_of, looks_of, policy_of}
 use Rattle.clobber_log.specs.Restore.{restore_events}
 use Rattle.cut_law.proofs.Backs.{misses_restore}
 use Rattle.cnvm_session.specs.Commands as commanded
@@ -63,6 +63,7 @@ use Rattle.session_law.proofs.Cleaning.{missed_at, rest_at}
 use Rattle.session_law.proofs.Retired.{next_small}
 use Rattle.session_law.proofs.Reading.{numbers_small, stands_ready, stands_numbers}
 use Rattle.session_law.proofs.Calls.{ran_events}
+use Rattle.session_law.proofs.Looking.{look_is_on, stopped_look}
 
 -- if a list of events is refused at one of them, what holds during all but its last event still
 -- holds
@@ -243,10 +244,19 @@ module _ (program : Program) (super : Words) (agrees : Agrees program)
         sym same ∙ off_of is.tx_answer at is.answer in
         absurd cc
 
+    by_looks : (looks marked : Bool) →
+        commanded_by.RunsAs looks marked program.image tx args d (answer.Stopped at) n b k k1
+        → Images (HasPhase at s) b.cache
+    by_looks true marked is =
+        absurd (look_is_on is.seen program.image tx args d k k1 resting.on is.looked
+        (stopped_look is.seen at is.answer))
+    by_looks false marked is =
+        by_numbers (is_number (view d.cache DONE) && is_number (view d.cache ATTEMPT)) refl marked
+        is
+
     by_call : commanded_by.Runs program tx args d (answer.Stopped at) n b k k1
         → Images (HasPhase at s) b.cache
-    by_call is = by_numbers (is_number (view d.cache DONE) && is_number (view d.cache ATTEMPT)) refl
-        (rolls_back_of program tx) is
+    by_call is = by_looks (looks_of program tx) (rolls_back_of program tx) is
 
   module _ (args : List ℤ) (words : AreWords args) (at : Phase) (n : Mode) (k k1 : ℕ) where
     by_count : (tx count : ℕ) (same : Bool) → (count == length args) ≡ same

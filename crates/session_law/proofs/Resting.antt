@@ -1,6 +1,6 @@
 -- A device that is at rest with a pool, and what a power cut leaves of it.
 use Rattle.std.proofs.Common.{◌≡◌, ℕ, ◌<◌, Bool, true, false, List, ℤ, refl, sym, ap, ◌∙◌, subst}
-use Rattle.std.proofs.Common.{if◌then◌else◌, nat_lt}
+use Rattle.std.proofs.Common.{if◌then◌else◌, nat_lt, None}
 use Rattle.cache_model.specs.Cache.{Words, view}
 use Rattle.pmem.specs.Device.{Device}
 use Rattle.pool_layout.specs.declared.places.Place.TheVariants.{Heap}
@@ -32,7 +32,7 @@ use Rattle.session_law.specs.Source.{LogsBy, means, outcome_with, ComesBy, sourc
 use Rattle.session_law.specs.Source.{HasSourceHeaders}
 use Rattle.session_law.specs.Words.{HasPoolWords}
 use Rattle.session_law.specs.Agrees.{Matches, RunsAs}
-use Rattle.session_law.specs.State.{Pending, SourceState}
+use Rattle.session_law.specs.State.{Pending, Down, SourceState, standing_as}
 use Rattle.session_law.specs.Holds.{HoldsPool, IsResting, OwesNone}
 use Rattle.session_law.proofs.Exact.{run_recorded}
 use Rattle.session_law.proofs.Ones.{rest_images}
@@ -93,6 +93,22 @@ resting_owes program super d s resting =
           (heap_in (sizes_of program) d.cache) s.last) d.cache resting.rest resting.before;
     }
 
+-- nor is it where the session went down
+pub resting_down : (program : Program) (super : Words) (d : Device) (s : SourceState)
+    → IsResting program super d s → OwesNone program super d (standing_as (Down None) s)
+resting_down program super d s resting =
+    let owes : OwesNone program super d s = resting_owes program super d s resting in
+    record {
+      heap = owes.heap;
+      holds =
+          record {
+            headers = owes.holds.headers;
+            pool = owes.holds.pool;
+            words = owes.holds.words;
+          };
+      left = owes.left;
+    }
+
 -- a run that ends with this value and heap, as the source says
 
 pub record HasHalted (program : Program) (o : Outcome) (v : ℤ) (h : Words) : Type 0 where
@@ -114,7 +130,7 @@ halted_of program (Done pool value) v h is =
     }
 halted_of program (Trap trap) v h is = absurd is
 
-trapped_of : (program : Program) (o : Outcome) (kind : TrapKind) (h : Words)
+pub trapped_of : (program : Program) (o : Outcome) (kind : TrapKind) (h : Words)
     → Matches program o (Trapped kind) h → o ≡ Trap kind
 trapped_of program (Done pool value) kind h is = absurd is
 trapped_of program (Trap trap) kind h is = ap Trap (sym is)

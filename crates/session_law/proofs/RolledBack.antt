@@ -34,7 +34,7 @@ use Rattle.cnvm_session.specs.declared.answer.Answer.TheVariants as answer
 use Rattle.cnvm_session.specs.declared.program.Program.{Program}
 use Rattle.cnvm_session.specs.Commands as commanded
 use Rattle.cnvm_session.specs.Commands.{call_number, tx_parameters, fallen}
-use Rattle.cnvm_session.specs.Marks.{rolls_back_of, policy_of}
+use Rattle.cnvm_session.specs.Marks.{rolls_back_of, looks_of, policy_of}
 use Rattle.cnvm_session.specs.Outcomes.{answer_of_call, answer_of_recovery, RecoversBy}
 use Rattle.cnvm_session.specs.Outcomes as outcomes
 use Rattle.cnvm_session.specs.Pool.{sizes_of}
@@ -108,12 +108,20 @@ module _ (program : Program) (super : Words) (agrees : Agrees program)
           let clash : called.Numbers ≡ called.Aborted kind = sym same ∙ rolled in
           absurd cc
 
+  by_marks : (tx : ℕ) → tx_parameters program.image tx ≡ Some (length args) →
+      (looks marked : Bool) → rolls_back_of program tx ≡ marked →
+      outcomes.RunsAs looks marked program.image tx args d (answer.Aborted kind) n b k k1 → Restored
+  by_marks tx takes true marked mark is =
+      subst (IsRolledBack program (heap_in (sizes_of program) d.cache) s.last) (sym is.same)
+      (record { heap = λ w less. refl; last_is = resting.before.last_is })
+  by_marks tx takes false marked mark is = by_mark tx takes marked mark is
+
   by_count : (tx count : ℕ) (same : Bool) → (count == length args) ≡ same
       → tx_parameters program.image tx ≡ Some count
       → commanded.CallsWith same program tx args d (answer.Aborted kind) n b k k1 → Restored
   by_count tx count true same takes h =
-      by_mark tx (takes ∙ ap (λ (i : ℕ). Some i) (eqb-true count (length args) same))
-      (rolls_back_of program tx) refl h
+      by_marks tx (takes ∙ ap (λ (i : ℕ). Some i) (eqb-true count (length args) same))
+      (looks_of program tx) (rolls_back_of program tx) refl h
   by_count tx count false same takes h = let e = h.0 in absurd cc
 
   by_parameters : (tx : ℕ) (count : Option ℕ) → tx_parameters program.image tx ≡ count

@@ -1,6 +1,6 @@
 -- A refused command changes nothing.
 use Rattle.std.proofs.Common.{◌≡◌, ℕ, ◌==◌, Bool, true, false, List, [], ◌++◌, length, Option, Some}
-use Rattle.std.proofs.Common.{None, ℤ, refl, ap, ◌∙◌, append-nil}
+use Rattle.std.proofs.Common.{None, ℤ, refl, ap, ◌∙◌, append-nil, subst, ⊎_elim}
 use Rattle.cache_model.specs.Cache.{Words}
 use Rattle.cnvm_script.specs.declared.command.Command.{Command}
 use Rattle.cnvm_script.specs.declared.command.Command.TheVariants as command
@@ -8,15 +8,17 @@ use Rattle.cnvm_session.specs.declared.answer.Answer.{Answer}
 use Rattle.cnvm_session.specs.declared.answer.Answer.TheVariants as answer
 use Rattle.cnvm_session.specs.declared.program.Program.{Program}
 use Rattle.cnvm_session.specs.Commands.{call_number}
+use Rattle.cnvm_session.specs.Marks.{rolls_back_of, looks_of}
 use Rattle.cnvm_session.specs.Laws.{IsRefusal, IsBadPick, IsRefused}
 use Rattle.cnvm_session.proofs.Refusing.{command_kept}
 use Rattle.session_law.specs.Source.{source_parameters}
 use Rattle.session_law.specs.State.{Pending, Standing, Ready, Down, Unusable, SourceState}
-use Rattle.session_law.specs.Answers.{Runs, CallsWith, CallsTo, CallsNamed, Calls, Tells}
-use Rattle.session_law.specs.Answers.{Shows, Lasts, Powers, Answers}
-use Rattle.session_law.specs.History.{call_to, called_by, recovered_by, done_by}
+use Rattle.session_law.specs.Answers.{RunsBy, RunsAs, CallsWith, CallsTo, CallsNamed, Calls}
+use Rattle.session_law.specs.Answers.{Tells, Shows, Lasts, Powers, Answers}
+use Rattle.session_law.specs.History.{call_to, counted, called_by, recovered_by, done_by}
 use Rattle.session_law.specs.Ran.{found_by}
 use Rattle.session_law.specs.Law.{UnchangedLaw}
+use Rattle.session_law.proofs.Looking.{looked_state}
 
 none_called : (call : List Pending) (a : Answer) → IsRefusal a → called_by call a ≡ []
 none_called call answer.Silent is = absurd is
@@ -40,31 +42,39 @@ none_called call answer.RefusedNumbers is = refl
 none_called call (answer.RefusedPick line) is = absurd is
 
 module _ (program : Program) (s t : SourceState) (image : Words) where
-  runs_same : (tx : ℕ) (args : List ℤ) (a : Answer) → IsRefusal a →
-      Runs program s image tx args a t → t ≡ s
-  runs_same tx args answer.Silent refused is = absurd refused
-  runs_same tx args (answer.Done value logged) refused is = absurd refused
-  runs_same tx args (answer.Trap kind) refused is = absurd refused
-  runs_same tx args (answer.Aborted kind) refused is = absurd refused
-  runs_same tx args (answer.Stopped p) refused is = absurd refused
-  runs_same tx args answer.DeviceFault refused is = absurd refused
-  runs_same tx args answer.RecoveredNone refused is = absurd refused
-  runs_same tx args (answer.RecoveredRedone value logged) refused is = absurd refused
-  runs_same tx args (answer.RecoveredTrap kind) refused is = absurd refused
-  runs_same tx args (answer.RecoveredAborted kind) refused is = absurd refused
-  runs_same tx args (answer.Shown text) refused is = absurd refused
-  runs_same tx args (answer.Last n value) refused is = absurd refused
-  runs_same tx args answer.NoMemory refused is = absurd refused
-  runs_same tx args answer.RefusedDown refused is = absurd is
-  runs_same tx args (answer.RefusedUnusable kind) refused is = absurd is
-  runs_same tx args answer.RefusedUnknown refused is = absurd is
-  runs_same tx args answer.RefusedArity refused is = absurd is
-  runs_same tx args answer.RefusedNumbers refused is = is.1
-  runs_same tx args (answer.RefusedPick line) refused is = absurd refused
+  by_same : (tx : ℕ) (args : List ℤ) (marked : Bool) (a : Answer) → IsRefusal a →
+      RunsBy marked program s image tx args a t → t ≡ s
+  by_same tx args marked answer.Silent refused is = absurd refused
+  by_same tx args marked (answer.Done value logged) refused is = absurd refused
+  by_same tx args marked (answer.Trap kind) refused is = absurd refused
+  by_same tx args marked (answer.Aborted kind) refused is = absurd refused
+  by_same tx args marked (answer.Stopped p) refused is = absurd refused
+  by_same tx args marked answer.DeviceFault refused is = absurd refused
+  by_same tx args marked answer.RecoveredNone refused is = absurd refused
+  by_same tx args marked (answer.RecoveredRedone value logged) refused is = absurd refused
+  by_same tx args marked (answer.RecoveredTrap kind) refused is = absurd refused
+  by_same tx args marked (answer.RecoveredAborted kind) refused is = absurd refused
+  by_same tx args marked (answer.Shown text) refused is = absurd refused
+  by_same tx args marked (answer.Last n value) refused is = absurd refused
+  by_same tx args marked answer.NoMemory refused is = absurd refused
+  by_same tx args marked answer.RefusedDown refused is = absurd is
+  by_same tx args marked (answer.RefusedUnusable kind) refused is = absurd is
+  by_same tx args marked answer.RefusedUnknown refused is = absurd is
+  by_same tx args marked answer.RefusedArity refused is = absurd is
+  by_same tx args marked answer.RefusedNumbers refused is = is.1
+  by_same tx args marked (answer.RefusedPick line) refused is = absurd refused
+
+  runs_same : (tx : ℕ) (args : List ℤ) (looks marked : Bool) (a : Answer) → IsRefusal a →
+      RunsAs looks marked program s image tx args a t → t ≡ s
+  runs_same tx args true marked a refused is =
+      ⊎_elim (λ same. same) (λ down. absurd (subst IsRefusal down.0 refused))
+      (looked_state program s t tx args a is)
+  runs_same tx args false marked a refused is = by_same tx args marked a refused is
 
   with_same : (tx : ℕ) (args : List ℤ) (same : Bool) (a : Answer) → IsRefusal a →
       CallsWith same program s image tx args a t → t ≡ s
-  with_same tx args true a refused is = runs_same tx args a refused is
+  with_same tx args true a refused is =
+      runs_same tx args (looks_of program tx) (rolls_back_of program tx) a refused is
   with_same tx args false a refused is = is.1
 
   to_same : (tx : ℕ) (args : List ℤ) (count : Option ℕ) (a : Answer) → IsRefusal a →
@@ -141,7 +151,7 @@ module _ (program : Program) (s t : SourceState) (image : Words) where
       (t ≡ s) × (done_by program s image c a ≡ [])
   answers_same (command.Call name args) a refused is = (
     calls_same name args s.standing a refused is,
-    none_called (call_to (call_number program name) args) a refused,
+    none_called (call_to (counted program (call_number program name)) args) a refused,
   )
   answers_same (command.Stop left) a refused is = (is.1, refl)
   answers_same (command.Fault at) a refused is = (is.1, refl)

@@ -1,7 +1,7 @@
 -- A program's image agrees with its source if, from every heap with valid headers, the run of each
 -- transaction without its log is sound, ends as the source says on the heap's pool, and takes as
 -- many records as the source's stores ask for. Each compiled program agrees with its source.
-use Rattle.std.specs.Prelude.{ℕ, ◌^◌, ◌<◌, ◌≤◌, ◌≡◌, List, Bool, length, Some, ℤ}
+use Rattle.std.specs.Prelude.{ℕ, ◌^◌, ◌<◌, ◌≤◌, ◌≡◌, List, Bool, true, length, Some, ℤ}
 use Rattle.cache_model.specs.Cache.{Words}
 use Rattle.pool_map.specs.PoolFits.{words_of}
 use Rattle.c_types.specs.Shapes.{shapes_of}
@@ -13,10 +13,11 @@ use Rattle.pm_machine.specs.declared.records.Policy.TheVariants.{EndPool}
 use Rattle.pm_machine.specs.Effects.{heap_end}
 use Rattle.pm_machine.specs.Machine.{Finished, mrun}
 use Rattle.pm_machine.specs.Logging.{blank, takes}
+use Rattle.pm_machine.specs.Looking.{AreLooks}
 use Rattle.run_law.specs.Sound.{IsSoundRun}
 use Rattle.cnvm_session.specs.declared.program.Program.{Program}
 use Rattle.cnvm_session.specs.Commands.{tx_parameters}
-use Rattle.cnvm_session.specs.Marks.{policy_of}
+use Rattle.cnvm_session.specs.Marks.{policy_of, looks_of}
 use Rattle.cnvm_session.specs.Pool.{sizes_of}
 use Rattle.session_law.specs.Words.{AreWords, HasPoolWords}
 use Rattle.session_law.specs.Source.{source_parameters, means, LogsBy, source_pool}
@@ -32,6 +33,7 @@ Matches program (Trap trap) (Trapped k) h = k ≡ trap
 
 -- The run of a transaction from a heap, without its log: it ends as the source says. With its log
 -- it takes this number of records, marked or not, where the log has room for them.
+-- The run of one that only looks has no event but the fence at its end.
 pub record RunsAs (program : Program) (h : Words) (tx : ℕ) (args : List ℤ) : Type 0 where
   pub end : End
   pub effects : List Effect
@@ -41,6 +43,7 @@ pub record RunsAs (program : Program) (h : Words) (tx : ℕ) (args : List ℤ) :
       (heap_end h effects)
   pub logs : (marked : Bool) → LogsBy marked program (source_pool program h) tx args
       (takes (blank (policy_of marked)) effects)
+  pub looks : looks_of program tx ≡ true → AreLooks effects
 
 -- The root has as many words as the source's root struct. The image has the transactions of the
 -- source, each with as many parameters. A transaction's number is below 2^63 and it has at most 22

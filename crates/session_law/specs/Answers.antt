@@ -22,9 +22,9 @@ use Rattle.cnvm_session.specs.declared.answer.Answer.{Answer}
 use Rattle.cnvm_session.specs.declared.answer.Answer.TheVariants as answer
 use Rattle.cnvm_session.specs.declared.program.Program.{Program}
 use Rattle.cnvm_session.specs.Commands.{call_number}
-use Rattle.cnvm_session.specs.Marks.{rolls_back_of}
+use Rattle.cnvm_session.specs.Marks.{rolls_back_of, looks_of}
 use Rattle.cnvm_session.specs.Pool.{sizes_of}
-use Rattle.session_law.specs.Source.{source_parameters, ComesBy}
+use Rattle.session_law.specs.Source.{source_parameters, means, ComesBy}
 use Rattle.session_law.specs.State.{Pending, Standing, Ready, Down, Unusable, SourceState}
 use Rattle.session_law.specs.State.{standing_as, done_with, undone_as}
 
@@ -70,10 +70,26 @@ RunsBy marked program s image tx args answer.NoMemory t = IsCutOff s tx args t
 RunsBy marked program s image tx args answer.RefusedNumbers t = IsOutOfNumbers s image t
 RunsBy marked program s image tx args a t = ⊥
 
+-- The answer of a call that only looks: the transaction comes to this value, on a pool that stays
+-- as it is, or to this trap, and nothing changes. Without memory for it the session is down.
+abbrev pub Looks : Program → SourceState → (tx : ℕ) → List ℤ → Answer → SourceState → Type 0
+Looks program s tx args (answer.Done value logged) t =
+    (means program s.pool tx args ≡ Done s.pool value) × (logged ≡ 0) × (t ≡ s)
+Looks program s tx args (answer.Aborted kind) t =
+    (means program s.pool tx args ≡ Trap kind) × (t ≡ s)
+Looks program s tx args answer.NoMemory t = t ≡ standing_as (Down None) s
+Looks program s tx args a t = ⊥
+
+-- the same of any call, by its marks
+abbrev pub RunsAs : (looks marked : Bool) → Program → SourceState → Words → (tx : ℕ) → List ℤ
+    → Answer → SourceState → Type 0
+RunsAs true marked program s image tx args a t = Looks program s tx args a t
+RunsAs false marked program s image tx args a t = RunsBy marked program s image tx args a t
+
 -- the answer of a call whose transaction takes these arguments
 abbrev pub Runs : Program → SourceState → Words → (tx : ℕ) → List ℤ → Answer → SourceState → Type 0
 Runs program s image tx args a t =
-    RunsBy (rolls_back_of program tx) program s image tx args a t
+    RunsAs (looks_of program tx) (rolls_back_of program tx) program s image tx args a t
 
 abbrev pub CallsWith : Bool → Program → SourceState → Words → (tx : ℕ) → List ℤ → Answer
     → SourceState → Type 0

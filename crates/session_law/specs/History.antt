@@ -1,6 +1,6 @@
 -- The history of a session is the list of transactions that are finished, in order: those that are
--- done, and those that were rolled back. The commands, the answers and the images that the commands
--- find determine it.
+-- done, and those that were rolled back. A call that only looks is in no history. The commands, the
+-- answers and the images that the commands find determine it.
 use Rattle.std.specs.Prelude.{ℕ, suc, ◌+◌, ◌≡◌, ◌⊎◌, ◌&&◌, Bool, true, if◌then◌else◌, List}
 use Rattle.std.specs.Prelude.{[], ◌∷◌, ◌++◌, length, Option, Some, None, ℤ, pos}
 use Rattle.std.specs.Ordering.{int_eq}
@@ -14,7 +14,7 @@ use Rattle.cnvm_session.specs.declared.answer.Answer.{Answer}
 use Rattle.cnvm_session.specs.declared.answer.Answer.TheVariants as answer
 use Rattle.cnvm_session.specs.declared.program.Program.{Program}
 use Rattle.cnvm_session.specs.Commands.{call_number}
-use Rattle.cnvm_session.specs.Marks.{rolls_back_of}
+use Rattle.cnvm_session.specs.Marks.{rolls_back_of, looks_of}
 use Rattle.session_law.specs.Source.{ComesBy}
 use Rattle.session_law.specs.State.{Pending, Standing, Ready, Down, Unusable, SourceState}
 
@@ -25,13 +25,19 @@ waiting_of (Down None) = []
 waiting_of (Down (Some owed)) = owed ∷ []
 waiting_of (Unusable kind) = []
 
--- the transaction that a command calls
+-- a call of the transaction of this number
 abbrev pub call_to : Option ℕ → List ℤ → List Pending
 call_to None args = []
 call_to (Some tx) args = record { tx = tx; args = args } ∷ []
 
+-- the number, unless that transaction only looks
+abbrev pub counted : Program → Option ℕ → Option ℕ
+counted program None = None
+counted program (Some tx) = if looks_of program tx then None else Some tx
+
+-- the transaction that a command calls, unless it only looks
 abbrev pub call_in : Program → Command → List Pending
-call_in program (command.Call name args) = call_to (call_number program name) args
+call_in program (command.Call name args) = call_to (counted program (call_number program name)) args
 call_in program c = []
 
 abbrev pub calls_in : Program → List Command → List Pending
@@ -63,7 +69,7 @@ recovered_by s image a = if is_retired s image then waiting_of s.standing else [
 -- what a command has done, by its answer and the image that it found
 abbrev pub done_by : Program → SourceState → Words → Command → Answer → List Pending
 done_by program s image (command.Call name args) a =
-    called_by (call_to (call_number program name) args) a
+    called_by (call_to (counted program (call_number program name)) args) a
 done_by program s image (command.Power choice) a = recovered_by s image a
 done_by program s image c a = []
 
@@ -71,10 +77,10 @@ abbrev pub history_after : Program → SourceState → Words → Command → Ans
     → List Pending
 history_after program s image c a history = history ++ done_by program s image c a
 
--- the calls that were answered with a value, or aborted
+-- the calls that were answered with a value, or aborted, but for those that only look
 abbrev pub answered_by : Program → Command → Answer → List Pending
 answered_by program (command.Call name args) a =
-    called_by (call_to (call_number program name) args) a
+    called_by (call_to (counted program (call_number program name)) args) a
 answered_by program c a = []
 
 abbrev pub answered_in : Program → List Command → List Answer → List Pending

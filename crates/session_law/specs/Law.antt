@@ -1,6 +1,7 @@
 -- A session of a program does what the program's source says.
 use Rattle.std.specs.Prelude.{ℕ, suc, ◌+◌, ◌*◌, ◌<◌, ◌≤◌, ◌≡◌, ◌≢◌, ◌⊎◌, List, [], ◌∷◌, ◌++◌}
-use Rattle.std.specs.Prelude.{length, Some, Ok, ℤ, pos, slice_index_or, Bool, true, false, nat_lt}
+use Rattle.std.specs.Prelude.{length, Some, None, Ok, ℤ, pos, slice_index_or, Bool, true, false}
+use Rattle.std.specs.Prelude.{nat_lt}
 use Rattle.std.specs.List.{AllByRecursion}
 use Rattle.cache_model.specs.Image.{Images}
 use Rattle.cache_model.specs.declared.choice.Choice.{Choice}
@@ -34,7 +35,7 @@ use Rattle.cnvm_session.specs.declared.mode.Mode.{Mode}
 use Rattle.cnvm_session.specs.declared.mode.Mode.TheVariants.{Ready}
 use Rattle.cnvm_session.specs.declared.program.Program.{Program}
 use Rattle.cnvm_session.specs.Commands.{call_number, tx_parameters, Commanded}
-use Rattle.cnvm_session.specs.Marks.{rolls_back_of, policy_of}
+use Rattle.cnvm_session.specs.Marks.{rolls_back_of, looks_of, policy_of}
 use Rattle.cnvm_session.specs.Steps.{most_of_program}
 use Rattle.cnvm_session.specs.Laws.{IsRefused}
 use Rattle.cnvm_session.specs.Outcomes.{Opens}
@@ -80,7 +81,7 @@ IsFullAt records logged kind =
 
 -- A transaction comes to a full log exactly if it has more logged stores than the log has records;
 -- and exactly then its call, or its recovery, is answered so. So `aborted logfull` is no answer
--- where the records have room.
+-- where the records have room. A call that only looks takes no record, and is never answered so.
 abbrev pub FullLogLaw : Type 0
 FullLogLaw =
     ((marked : Bool) (program : Program) (pool : PoolMap) (tx : ℕ) (args : List ℤ) (logged : ℕ)
@@ -88,7 +89,8 @@ FullLogLaw =
     (outcome ≡ Trap LogFull → (sizes_of program).records < logged)
     × ((sizes_of program).records < logged → outcome ≡ Trap LogFull))
     × ((program : Program) (s t : SourceState) (image : Words) (tx : ℕ) (args : List ℤ) (logged : ℕ)
-    (kind : TrapKind) → LogsBy (rolls_back_of program tx) program s.pool tx args logged →
+    (kind : TrapKind) → looks_of program tx ≡ false →
+    LogsBy (rolls_back_of program tx) program s.pool tx args logged →
     Runs program s image tx args (answer.Aborted kind) t ⊎
     Runs program s image tx args (answer.Trap kind) t →
     IsFullAt (sizes_of program).records logged kind)
@@ -98,6 +100,10 @@ FullLogLaw =
     Redoes program owed s image (answer.RecoveredAborted kind) t ⊎
     Redoes program owed s image (answer.RecoveredTrap kind) t →
     IsFullAt (sizes_of program).records logged kind)
+    × ((program : Program) (s t : SourceState) (image : Words) (tx : ℕ) (args : List ℤ)
+    (kind : TrapKind) → looks_of program tx ≡ true →
+    Runs program s image tx args (answer.Aborted kind) t ⊎
+    Runs program s image tx args (answer.Trap kind) t → kind ≢ LogFull)
 
 -- The first pool and the finished transactions determine the pool to which these lead.
 abbrev pub LedLaw : Type 0
@@ -381,7 +387,7 @@ KeptLaw =
     Holds program super y.mode y.device y.state
 
 -- What a chain has done: the history has grown by these transactions, and each call that was
--- answered with a value is among them.
+-- answered with a value is among them, but for those that only look.
 pub record HasGrown (program : Program) (commands : List Command) (answers : List Answer)
     (x y : Moment) : Type 0 where
   pub done : List Pending
@@ -390,7 +396,7 @@ pub record HasGrown (program : Program) (commands : List Command) (answers : Lis
   pub answered : IsPart (answered_in program commands answers) done
 
 -- Never twice: each call adds at most one entry to the history, and adds one if it was answered
--- with a value.
+-- with a value. One that only looks adds none.
 abbrev pub HistoryLaw : Type 0
 HistoryLaw =
     (program : Program) (super : Words) (commands : List Command) (answers : List Answer)
@@ -443,3 +449,22 @@ BoundLaw =
     (x y : Moment) →
     Ran program super commands answers x y →
     y.steps ≤ x.steps + length commands * most_of_program program
+
+-- Looking changes nothing: a call of a transaction that only looks leaves the device as it was, the
+-- history, and what the source knows; so nothing is owed after it, and no trap ends the pool. Only
+-- where there was no memory for it is the session down.
+pub record IsLooked (x : Moment) (a : Answer) (y : Moment) : Type 0 where
+  pub device : y.device ≡ x.device
+  pub history : y.history ≡ x.history
+  pub state : (y.state ≡ x.state)
+      ⊎ ((a ≡ answer.NoMemory) × (y.state ≡ standing_as (Down None) x.state))
+  pub pool : y.state.pool ≡ x.state.pool
+  pub done : y.state.done ≡ x.state.done
+  pub last : y.state.last ≡ x.state.last
+
+abbrev pub LookLaw : Type 0
+LookLaw =
+    (program : Program) (super : Words) (name : List ℕ) (args : List ℤ) (tx : ℕ) (x y : Moment)
+    (a : Answer) →
+    call_number program name ≡ Some tx → looks_of program tx ≡ true →
+    SessionStep program super (command.Call name args) x a y → IsLooked x a y

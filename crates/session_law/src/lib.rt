@@ -11,7 +11,7 @@ ghost use Rattle.session_law.specs.Law.{OpenedLaw, SessionRunLaw, KeptLaw, Histo
 ghost use Rattle.session_law.specs.Law.{WholeLaw, UnchangedLaw, BoundLaw, ScriptLaw, DeterminedLaw};
 ghost use Rattle.session_law.specs.Law.{FullLaw, RecoveryPhaseLaw};
 ghost use Rattle.session_law.specs.Law.{LedLaw, FullLogLaw, ExactLaw, HeldRunLaw};
-ghost use Rattle.session_law.specs.Law.{RollbackLaw};
+ghost use Rattle.session_law.specs.Law.{RollbackLaw, LookLaw};
 ghost use Rattle.session_law.specs.Ends.{EndsLaw};
 
 /// Each command of a session is answered as the source says. The function does nothing.
@@ -39,4 +39,5 @@ pub fn law()
     ensures held_run { HeldRunLaw }
     ensures rollback { RollbackLaw }
     ensures ends { EndsLaw }
+    ensures look { LookLaw }
 {}

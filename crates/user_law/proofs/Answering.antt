@@ -1,21 +1,29 @@
 -- Each command has an end.
 use Rattle.std.proofs.Common.{◌≡◌, ℕ, ◌==◌, Bool, true, false, List, length, Option, Some, None}
 use Rattle.std.proofs.Common.{ℤ, pos, refl, sym, ap, ◌∙◌, subst}
+use Rattle.std.specs.Option.{option_map_or}
 use Rattle.cache_model.specs.Cache.{Words}
 use Rattle.pool_layout.specs.declared.places.TheConstants.{MARK}
 use Rattle.pool_map.specs.PoolText.{pool_text}
+use Rattle.pool_map.specs.PoolMap.{PoolMap}
 use Rattle.c_types.specs.Shapes.{shapes_in}
+use Rattle.rules_law.specs.typed.Programs.{IsWellTyped}
 use Rattle.c_meaning.specs.Transaction.{Outcome, Done, Trap}
 use Rattle.cnvm_script.specs.declared.command.Command.TheVariants as command
 use Rattle.cnvm_session.specs.declared.answer.Answer.{Answer}
 use Rattle.cnvm_session.specs.declared.answer.Answer.TheVariants as answer
 use Rattle.session_law.specs.State.{Pending}
-use Rattle.user_law.specs.Source.{Source, number_named, arity_of, rolls_back, comes_to}
+use Rattle.user_law.specs.Source.{Source, number_named, arity_of, rolls_back, looks, means}
+use Rattle.user_law.specs.Source.{comes_to}
 use Rattle.user_law.specs.State.{UserStanding, Ready, Idle, Owed, Unusable, UserState, stands_as}
-use Rattle.user_law.specs.Answers.{call_told, recovery_told, finished, UserRuns}
-use Rattle.user_law.specs.Answers.{UserCallsWith, UserCallsTo, UserCallsNamed, UserCalls}
+use Rattle.user_law.specs.Answers.{call_told, recovery_told, finished, UserRuns, UserLooks}
+use Rattle.user_law.specs.Answers.{UserRunsAs, UserCallsWith, UserCallsTo, UserCallsNamed}
+use Rattle.user_law.specs.Answers.{UserCalls}
 use Rattle.user_law.specs.Answers.{UserShows, UserLasts, found_as, RecoveryEnds, UserPowers}
+use Rattle.user_law.specs.History.{pool_after}
+use Rattle.user_law.specs.Played.{only_looks}
 use Rattle.user_law.specs.Determined.{CameToEnd, CanRecover, SomeEndLaw}
+use Rattle.user_law.proofs.Leaving.{leaves}
 
 -- a relation that has an end
 abbrev HasEnd : (Answer → UserState → Type 0) → Type 0
@@ -55,24 +63,45 @@ module _ (p : Source) (s : UserState) (image : Words) where
       ),
     )
 
-    some_with : (fits : Bool) → HasEnd (UserCallsWith fits p s image call)
-    some_with true = run_of (rolls_back p call.tx) (comes_to p s.pool call) refl refl
-    some_with false = (answer.RefusedArity, s, tt, (refl, refl))
+    look_of : (o : Outcome) → means p s.pool call ≡ o → pool_after o s.pool ≡ s.pool
+        → HasEnd (UserLooks p s call)
+    look_of (Done pool value) is stays = (
+      answer.Done value 0,
+      s,
+      tt,
+      (is ∙ ap (λ (w : PoolMap). Done w value) stays, refl, refl),
+    )
+    look_of (Trap kind) is stays = (answer.Aborted kind, s, tt, (is, refl))
 
-    some_to : (count : Option ℕ) → HasEnd (UserCallsTo count p s image call)
-    some_to None = (answer.RefusedUnknown, s, tt, (refl, refl))
-    some_to (Some count) = some_with (count == length call.args)
+    some_run : (b : Bool) → looks p call.tx ≡ b → (b ≡ true → IsWellTyped p.tables)
+        → HasEnd (UserRunsAs b p s image call)
+    some_run true only typed =
+        look_of (means p s.pool call) refl (leaves p s.pool call (typed refl) only)
+    some_run false only typed = run_of (rolls_back p call.tx) (comes_to p s.pool call) refl refl
 
-  some_named : (number : Option ℕ) (args : List ℤ) → HasEnd (UserCallsNamed number p s image args)
-  some_named None args = (answer.RefusedUnknown, s, tt, (refl, refl))
-  some_named (Some tx) args = some_to (record { tx = tx; args = args }) (arity_of p tx)
+    module _ (typed : looks p call.tx ≡ true → IsWellTyped p.tables) where
+      some_with : (fits : Bool) → HasEnd (UserCallsWith fits p s image call)
+      some_with true = some_run (looks p call.tx) refl typed
+      some_with false = (answer.RefusedArity, s, tt, (refl, refl))
+
+      some_to : (arity : Option ℕ) → HasEnd (UserCallsTo arity p s image call)
+      some_to None = (answer.RefusedUnknown, s, tt, (refl, refl))
+      some_to (Some count) = some_with (count == length call.args)
+
+  some_named : (number : Option ℕ) (args : List ℤ)
+      → (option_map_or (looks p) number false ≡ true → IsWellTyped p.tables)
+      → HasEnd (UserCallsNamed number p s image args)
+  some_named None args typed = (answer.RefusedUnknown, s, tt, (refl, refl))
+  some_named (Some tx) args typed =
+      some_to (record { tx = tx; args = args }) typed (arity_of p tx)
 
   some_call : (st : UserStanding) (name : List ℕ) (args : List ℤ)
+      → (only_looks p (command.Call name args) ≡ true → IsWellTyped p.tables)
       → HasEnd (UserCalls st p s image name args)
-  some_call Ready name args = some_named (number_named p name) args
-  some_call Idle name args = (answer.RefusedDown, s, tt, (refl, refl))
-  some_call (Owed call seal) name args = (answer.RefusedDown, s, tt, (refl, refl))
-  some_call (Unusable kind) name args = (answer.RefusedUnusable kind, s, tt, (refl, refl))
+  some_call Ready name args typed = some_named (number_named p name) args typed
+  some_call Idle name args typed = (answer.RefusedDown, s, tt, (refl, refl))
+  some_call (Owed call seal) name args typed = (answer.RefusedDown, s, tt, (refl, refl))
+  some_call (Unusable kind) name args typed = (answer.RefusedUnusable kind, s, tt, (refl, refl))
 
   some_show : (st : UserStanding) → HasEnd (UserShows st p s)
   some_show Ready = (
@@ -159,10 +188,11 @@ module _ (p : Source) (s : UserState) (image : Words) where
     some_power (Unusable kind) stands can = absurd can
 
 pub some_end_law : SomeEndLaw
-some_end_law p s image (command.Call name args) finds = some_call p s image s.standing name args
-some_end_law p s image (command.Stop left) finds = (answer.Silent, s, tt, (refl, refl))
-some_end_law p s image (command.Fault at) finds = (answer.Silent, s, tt, (refl, refl))
-some_end_law p s image (command.Power choice) finds =
+some_end_law p s image (command.Call name args) finds typed =
+    some_call p s image s.standing name args typed
+some_end_law p s image (command.Stop left) finds typed = (answer.Silent, s, tt, (refl, refl))
+some_end_law p s image (command.Fault at) finds typed = (answer.Silent, s, tt, (refl, refl))
+some_end_law p s image (command.Power choice) finds typed =
     some_power p s image finds.0 (found_as s.standing p s image).standing refl finds.1
-some_end_law p s image command.Show finds = some_show p s image s.standing
-some_end_law p s image command.Last finds = some_last p s image s.standing
+some_end_law p s image command.Show finds typed = some_show p s image s.standing
+some_end_law p s image command.Last finds typed = some_last p s image s.standing

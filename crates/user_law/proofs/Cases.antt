@@ -11,7 +11,8 @@ use Rattle.cnvm_session.specs.Laws.{IsBadPick}
 use Rattle.session_law.specs.State.{Pending}
 use Rattle.user_law.specs.Source.{Source}
 use Rattle.user_law.specs.State.{Ready, Idle, Owed, Unusable, UserState, stands_as}
-use Rattle.user_law.specs.Answers.{finished, UserRuns, UserTells, found_as, RecoveryEnds}
+use Rattle.user_law.specs.Answers.{finished, UserRuns, UserLooks, UserTells, found_as}
+use Rattle.user_law.specs.Answers.{RecoveryEnds}
 use Rattle.user_law.specs.Answers.{UserRecovers, UserPowers}
 use Rattle.user_law.specs.Stays.{IsPowerCut}
 
@@ -42,6 +43,13 @@ module _ (p : Source) (s t : UserState) (image : Words) where
   runs_by call (answer.RefusedPick line) is = inr (inr is.1)
 
   -- as before, or no memory
+  pub looks_by : (call : Pending) (a : Answer) → UserLooks p s call a t →
+      (t ≡ s) ⊎ ((a ≡ answer.NoMemory) × (t ≡ stands_as Idle s))
+  looks_by call (answer.Done value logged) is = inl is.2
+  looks_by call (answer.Aborted kind) is = inl is.1
+  looks_by call answer.NoMemory is = inr (refl, is)
+  looks_by call _ is = absurd is
+
   pub tells_by : (a : Answer) → UserTells p s a t → (t ≡ s) ⊎ (t ≡ stands_as Idle s)
   tells_by answer.Silent is = inl is.1
   tells_by (answer.Done value logged) is = inl is.1

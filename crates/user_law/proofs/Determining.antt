@@ -23,10 +23,12 @@ use Rattle.cnvm_session.specs.declared.answer.Answer.TheVariants as answer
 use Rattle.cnvm_session.specs.AnswerText.{answer_text}
 use Rattle.session_law.specs.State.{Pending}
 use Rattle.session_law.specs.Ran.{found_by}
-use Rattle.user_law.specs.Source.{Source, number_named, arity_of, rolls_back, comes_to}
+use Rattle.user_law.specs.Source.{Source, number_named, arity_of, rolls_back, looks, means}
+use Rattle.user_law.specs.Source.{comes_to}
 use Rattle.user_law.specs.State.{UserStanding, Ready, Idle, Owed, Unusable, UserState, stands_as}
 use Rattle.user_law.specs.State.{state_after}
-use Rattle.user_law.specs.Answers.{call_told_by, finished, StaysWith, UserRuns, UserCallsWith}
+use Rattle.user_law.specs.Answers.{call_told, call_told_by, finished, StaysWith, UserRuns}
+use Rattle.user_law.specs.Answers.{UserLooks, UserRunsAs, UserCallsWith}
 use Rattle.user_law.specs.Answers.{UserCallsTo, UserCallsNamed, UserCalls, UserTells, UserShows}
 use Rattle.user_law.specs.Answers.{UserLasts, has_next_seal, has_next_count, found_by_seal}
 use Rattle.user_law.specs.Answers.{found_as, RecoveryEnds, UserRecovers, HasTrapped, UserPowers}
@@ -94,6 +96,18 @@ module _ (p : Source) (s : UserState) (image : Words) (t : UserState) where
   run_end call answer.RefusedArity ends is = is
   run_end call answer.RefusedNumbers ends is = absurd ends
   run_end call (answer.RefusedPick line) ends is = absurd ends
+
+  -- it is answered as a call that rolls back and takes no record
+  abbrev LookEnds : Pending → Answer → Type 0
+  LookEnds call a = StaysWith (call_told true 0 (means p s.pool call)) s a t
+
+  look_end : (call : Pending) (a : Answer) → CameToEnd a → UserLooks p s call a t
+      → LookEnds call a
+  look_end call (answer.Done value logged) ends is =
+      (ap (answer.Done value) is.1 ∙ sym (ap (call_told true 0) is.0), is.2)
+  look_end call (answer.Aborted kind) ends is = (sym (ap (call_told true 0) is.0), is.1)
+  look_end call answer.NoMemory ends is = absurd ends
+  look_end call _ ends is = absurd is
 
   abbrev TellEnds : Answer → Type 0
   TellEnds a = StaysWith (answer.Shown (pool_text (shapes_in p.tables) s.pool)) s a t
@@ -203,6 +217,13 @@ module _ (p : Source) (s : UserState) (image other : Words) (t u : UserState) wh
       ∙ sym (run_end p s other u call a ends so).1)
       (λ at is so. is ∙ sym so) (λ is so. is ∙ sym so) (λ is so. is ∙ sym so)
       (λ is so. is.1 ∙ sym so.1) (λ line is so. is.1 ∙ sym so.1)
+
+  look_state : (call : Pending) (a : Answer) → UserLooks p s call a t → UserLooks p s call a u
+      → t ≡ u
+  look_state call (answer.Done value logged) is so = is.2 ∙ sym so.2
+  look_state call (answer.Aborted kind) is so = is.1 ∙ sym so.1
+  look_state call answer.NoMemory is so = is ∙ sym so
+  look_state call _ is so = absurd is
 
   tell_state : (a : Answer) → UserTells p s a t → UserTells p s a u → t ≡ u
   tell_state = by_end (λ (a : Answer). UserTells p s a t → UserTells p s a u → t ≡ u)
@@ -385,9 +406,24 @@ module _ (p : Source) (s : UserState) (image other : Words) where
         (after_free (rolls_back p call.tx) (comes_to p s.pool call) s),
   )
 
+  look_fix : (call : Pending) → Fixes s (UserLooks p s call) (UserLooks p s call)
+  look_fix call = (
+    λ a t u is so. look_state p s image other t u call a is so,
+    λ a b t u ends also is so.
+        let first = look_end p s image t call a ends is in
+        let second = look_end p s other u call b also so in
+        (first.0 ∙ sym second.0, first.1 ∙ sym second.1),
+    λ a t owes ends is. stays_free s t (look_end p s image t call a ends is).1 owes,
+  )
+
+  as_fix : (looks : Bool) (call : Pending)
+      → Fixes s (UserRunsAs looks p s image call) (UserRunsAs looks p s other call)
+  as_fix true call = look_fix call
+  as_fix false call = run_fix call
+
   with_fix : (fits : Bool) (call : Pending)
       → Fixes s (UserCallsWith fits p s image call) (UserCallsWith fits p s other call)
-  with_fix true call = run_fix call
+  with_fix true call = as_fix (looks p call.tx) call
   with_fix false call = stays_fix answer.RefusedArity s
 
   to_fix : (count : Option ℕ) (call : Pending)

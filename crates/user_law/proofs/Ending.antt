@@ -14,12 +14,13 @@ use Rattle.cnvm_session.specs.declared.answer.Answer.{Answer}
 use Rattle.cnvm_session.specs.declared.answer.Answer.TheVariants as answer
 use Rattle.session_law.specs.State.{Pending}
 use Rattle.session_law.specs.Ran.{found_by}
-use Rattle.user_law.specs.Source.{Source, number_named, arity_of, rolls_back, comes_to}
+use Rattle.user_law.specs.Source.{Source, number_named, arity_of, rolls_back, looks, comes_to}
 use Rattle.user_law.specs.State.{UserStanding, Ready, Idle, Owed, Unusable, UserState, stands_as}
 use Rattle.user_law.specs.State.{state_after}
 use Rattle.user_law.specs.Answers.{call_told, recovery_told, call_told_by, recovery_told_by}
-use Rattle.user_law.specs.Answers.{finished, UserRuns, UserCallsWith, UserCallsTo, UserCallsNamed}
-use Rattle.user_law.specs.Answers.{UserCalls, found_as, RecoveryEnds, UserPowers, StaysWith}
+use Rattle.user_law.specs.Answers.{finished, UserRuns, UserLooks, UserRunsAs, UserCallsWith}
+use Rattle.user_law.specs.Answers.{UserCallsTo, UserCallsNamed, UserCalls, found_as, RecoveryEnds}
+use Rattle.user_law.specs.Answers.{UserPowers, StaysWith}
 use Rattle.user_law.specs.Played.{prepared, PlaysAs}
 use Rattle.user_law.specs.Ran.{UserMoment}
 use Rattle.session_law.specs.Ends.{IsInterrupted, ArmsNothing}
@@ -250,15 +251,29 @@ module _ (p : Source) (s t : UserState) (image : Words) (d b : Device) (es : Lis
   run_ends call answer.RefusedNumbers played is = tt
   run_ends call (answer.RefusedPick line) played is = run_ended call (answer.RefusedPick line) is
 
+  look_ends : (call : Pending) (a : Answer) → s.standing ≡ Ready → UserLooks p s call a t
+      → UserEndsAs a t
+  look_ends call (answer.Done value logged) ready is =
+      ap (λ (u : UserState). u.standing) is.2 ∙ ready
+  look_ends call (answer.Aborted kind) ready is =
+      ap (λ (u : UserState). u.standing) is.1 ∙ ready
+  look_ends call answer.NoMemory ready is = tt
+  look_ends call _ ready is = absurd is
+
   module _ (a : Answer) (played : PlaysAs a d es b) (ready : s.standing ≡ Ready) where
     -- a refusal that changes nothing
     stays : (why : Answer) → ((u : UserState) → u.standing ≡ Ready → UserEndsAs why u)
         → StaysWith why s a t → UserEndsAs a t
     stays why leaves is = ends_as a why t s is.0 is.1 (leaves s ready)
 
+    as_ends : (looks : Bool) (call : Pending) → UserRunsAs looks p s image call a t
+        → UserEndsAs a t
+    as_ends true call is = look_ends call a ready is
+    as_ends false call is = run_ends call a played is
+
     with_ends : (fits : Bool) (call : Pending) → UserCallsWith fits p s image call a t
         → UserEndsAs a t
-    with_ends true call is = run_ends call a played is
+    with_ends true call is = as_ends (looks p call.tx) call is
     with_ends false call is = stays answer.RefusedArity (λ u is. is) is
 
     to_ends : (arity : Option ℕ) (call : Pending) → UserCallsTo arity p s image call a t

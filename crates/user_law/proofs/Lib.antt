@@ -1,5 +1,6 @@
 pub mod Cases
 pub mod Moving
+pub mod Looking
 pub mod Staying
 pub mod Keeping
 pub mod Counting
@@ -10,6 +11,7 @@ pub mod Sealing
 pub mod Owing
 pub mod Stepping
 pub mod Ending
+pub mod Leaving
 pub mod Answering
 pub mod Determining
 pub mod Meeting

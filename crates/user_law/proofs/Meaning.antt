@@ -21,7 +21,7 @@ use Rattle.cnvm_session.specs.declared.answer.Answer.{Answer}
 use Rattle.cnvm_session.specs.declared.answer.Answer.TheVariants as answer
 use Rattle.cnvm_session.specs.declared.program.Program.{Program}
 use Rattle.cnvm_session.specs.Commands as commanded
-use Rattle.cnvm_session.specs.Marks.{rolls_back_of}
+use Rattle.cnvm_session.specs.Marks.{rolls_back_of, looks_of}
 use Rattle.cnvm_session.specs.Pool.{sizes_of}
 use Rattle.session_law.specs.Answers as machine
 use Rattle.session_law.specs.Source.{source_parameters, ComesBy}
@@ -32,7 +32,7 @@ use Rattle.user_law.specs.Source.{Source, Logs, rolls_back, comes_to}
 use Rattle.user_law.specs.State.{UserStanding, Ready, Idle, Owed, Unusable, UserState, stands_as}
 use Rattle.user_law.specs.State.{state_after}
 use Rattle.user_law.specs.Answers.{call_told, recovery_told, call_told_by, recovery_told_by}
-use Rattle.user_law.specs.Answers.{finished, UserRuns, UserCallsWith}
+use Rattle.user_law.specs.Answers.{finished, UserRuns, UserLooks, UserRunsAs, UserCallsWith}
 use Rattle.user_law.specs.Answers.{UserCallsTo, UserCallsNamed, UserCalls, UserTells, UserShows}
 use Rattle.user_law.specs.Answers.{UserLasts, NumbersAreOut}
 use Rattle.user_law.specs.Answers.{has_next_seal, has_next_count, found_by_seal, found_as}
@@ -40,6 +40,7 @@ use Rattle.user_law.specs.Answers.{UserRecovers}
 use Rattle.user_law.specs.Answers.{HasTrapped, UserPowers}
 use Rattle.user_law.specs.Seen.{source_in, plain, plain_standing, HasCounts}
 use Rattle.user_law.specs.Seen.{MeantLaw}
+use Rattle.user_law.proofs.Looking.{looks_same}
 
 -- an attempt at its end is no number
 no_number : (x : ℤ) → leb (2 ^ 62) (attempt_of x) ≡ true → is_number x ≡ false
@@ -205,11 +206,25 @@ module _ (program : Program) (logs : Logs) (count : HasCounts program logs) wher
     runs_meant call answer.RefusedNumbers is = (s, is.1, (is.0, refl))
     runs_meant call (answer.RefusedPick line) is = absurd is
 
+    look_meant : (call : Pending) (a : Answer) →
+        machine.Looks program (plain s) call.tx call.args a t → HasState t (UserLooks p s call a)
+    look_meant call (answer.Done value logged) is = (s, is.2, (is.0, is.1, refl))
+    look_meant call (answer.Aborted kind) is = (s, is.1, (is.0, refl))
+    look_meant call answer.NoMemory is = (stands_as Idle s, is, refl)
+    look_meant call _ is = absurd is
+
+    as_meant : (b : Bool) (call : Pending) (a : Answer) →
+        machine.RunsAs b (marked call) program (plain s) image call.tx call.args a t →
+        HasState t (UserRunsAs b p s image call a)
+    as_meant true call a is = look_meant call a is
+    as_meant false call a is = runs_meant call a is
+
     with_meant : (same : Bool) (call : Pending) (a : Answer) →
         machine.CallsWith same program (plain s) image call.tx call.args a t →
         HasState t (UserCallsWith same p s image call a)
     with_meant true call a is =
-        runs_meant call a is
+        subst (λ (b : Bool). HasState t (UserRunsAs b p s image call a))
+        (sym (looks_same program logs call.tx)) (as_meant (looks_of program call.tx) call a is)
     with_meant false call a is = (s, is.1, (is.0, refl))
 
     to_meant : (n : Option ℕ) (call : Pending) (a : Answer) →

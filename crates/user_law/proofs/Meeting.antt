@@ -1,4 +1,5 @@
--- A new pool has a step, each text a run; a call comes to its end, and one is cut off at its seal.
+-- A new pool has a step, each text a run; a call comes to its end, one only looks, and one is cut
+-- off at its seal.
 use Rattle.std.proofs.Common.{◌≡◌, ◌≢◌, ◌⊎◌, inl, inr, ⊎_elim, ℕ, zero, suc, ◌≤◌, ◌/◌, ◌==◌}
 use Rattle.std.proofs.Common.{cond, Bool, true, false, if◌then◌else◌, nat_lt, List, [], ◌∷◌}
 use Rattle.std.proofs.Common.{replicate, Option, Some, None, ℤ, pos, refl, sym, ap, ◌∙◌, subst}
@@ -42,8 +43,8 @@ use Rattle.user_law.specs.Keeps.{HasState, IsOwedAt, UserKeeps}
 use Rattle.user_law.specs.Ran.{UserMoment, UserStep}
 use Rattle.user_law.specs.Run.{first_moment, source_with}
 use Rattle.user_law.specs.Met.{blank_device, blank_moment, StepMetLaw, RunMetLaw}
-use Rattle.user_law.specs.Met.{seven_source, call_of_seven, CallMetLaw, keep_old, keep_new}
-use Rattle.user_law.specs.Met.{CutMetLaw, CountNeededLaw}
+use Rattle.user_law.specs.Met.{seven_source, call_of_seven, CallMetLaw, looking_source}
+use Rattle.user_law.specs.Met.{LookMetLaw, keep_old, keep_new, CutMetLaw, CountNeededLaw}
 
 -- a heap of zeros is the empty pool
 
@@ -352,6 +353,22 @@ module _ (sizes : Sizes) where
 
 pub call_met : CallMetLaw
 call_met sizes = (called_moment sizes, call_step sizes, refl)
+
+looking_step : (sizes : Sizes) → UserStep (looking_source sizes)
+    (command.Call (codes "seven") []) (blank_moment (looking_source sizes))
+    (answer.Done (pos 7) 0) (blank_moment (looking_source sizes))
+looking_step sizes = record {
+  events = [];
+  few = omega arith;
+  played = refl;
+  picks = tt;
+  meant = (refl, refl, refl);
+  kept = blank_keeps (looking_source sizes);
+  history = refl;
+}
+
+pub look_met : LookMetLaw
+look_met sizes = (refl, looking_step sizes)
 
 -- a call that is cut off right after the store of its seal
 

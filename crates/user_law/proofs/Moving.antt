@@ -20,11 +20,11 @@ use Rattle.cnvm_session.specs.Laws.{IsBadPick}
 use Rattle.session_law.specs.State.{Pending}
 use Rattle.session_law.specs.History.{call_to}
 use Rattle.session_law.specs.Ran.{found_by}
-use Rattle.user_law.specs.Source.{Source, number_named, arity_of, comes_to, rolls_back}
+use Rattle.user_law.specs.Source.{Source, number_named, arity_of, comes_to, rolls_back, looks}
 use Rattle.user_law.specs.State.{UserStanding, Ready, Idle, Owed, Unusable, UserState, stands_as}
 use Rattle.user_law.specs.State.{state_after}
-use Rattle.user_law.specs.Answers.{finished, UserCallsWith, UserCallsTo, UserCallsNamed}
-use Rattle.user_law.specs.Answers.{UserCalls, UserShows, UserLasts}
+use Rattle.user_law.specs.Answers.{finished, UserRunsAs, UserCallsWith, UserCallsTo}
+use Rattle.user_law.specs.Answers.{UserCallsNamed, UserCalls, UserShows, UserLasts}
 use Rattle.user_law.specs.Answers.{has_next_seal, has_next_count, found_by_seal, found_as}
 use Rattle.user_law.specs.Answers.{RecoveryEnds, UserAnswers}
 use Rattle.user_law.specs.Answers.{UserRecovers, UserPowers}
@@ -32,7 +32,7 @@ use Rattle.user_law.specs.History.{owed_in, subject_of, finished_by, pool_after}
 use Rattle.user_law.specs.History.{pool_after_all}
 use Rattle.user_law.specs.Ran.{UserMoment, UserStep}
 use Rattle.user_law.specs.Stays.{IsPowerCut, UserHasGrown, UserWholeLaw}
-use Rattle.user_law.proofs.Cases.{runs_by, tells_by, recovers_by, powers_by}
+use Rattle.user_law.proofs.Cases.{runs_by, looks_by, tells_by, recovers_by, powers_by}
 
 pub not_next : (n : ℕ) → (suc n == n) ≡ false
 not_next n = go (suc n == n) refl
@@ -88,9 +88,14 @@ module _ (p : Source) (s : UserState) where
       (after_moves st (rolls_back p call.tx) (comes_to p s.pool call) s))
 
   module _ (image : Words) (a : Answer) (t : UserState) where
-    with_moves : (call : Pending) (same : Bool) → UserCallsWith same p s image call a t →
+    runs_move : (call : Pending) (looks : Bool) → UserRunsAs looks p s image call a t →
         Moves p s (call ∷ []) t
-    with_moves call true is =
+    runs_move call true is =
+        ⊎_elim (λ (same : t ≡ s). same_moves (call ∷ []) t same)
+        (λ (none : (a ≡ answer.NoMemory) × (t ≡ stands_as Idle s)).
+        as_moves (call ∷ []) Idle t none.1)
+        (looks_by p s t image call a is)
+    runs_move call false is =
         ⊎_elim (λ (cut : (at : Phase) × (t ≡ stands_as (Owed call at) s)
         × ((at ≡ phase.Sealing) ⊎ (a ≡ answer.Stopped at))).
         as_moves (call ∷ []) (Owed call cut.0) t cut.1)
@@ -98,6 +103,10 @@ module _ (p : Source) (s : UserState) where
         ⊎_elim (λ (same : t ≡ s). same_moves (call ∷ []) t same)
         (λ (ends : t ≡ finished Ready p s call). finished_moves call Ready t ends) rest)
         (runs_by p s t image call a is)
+
+    with_moves : (call : Pending) (same : Bool) → UserCallsWith same p s image call a t →
+        Moves p s (call ∷ []) t
+    with_moves call true is = runs_move call (looks p call.tx) is
     with_moves call false is = same_moves (call ∷ []) t is.1
 
     to_moves : (call : Pending) (count : Option ℕ) → UserCallsTo count p s image call a t →

@@ -28,17 +28,19 @@ use Rattle.session_law.specs.Ran.{found_by}
 use Rattle.session_law.specs.Law.{IsWordCommand}
 use Rattle.session_law.specs.Law as session_law
 use Rattle.session_law.proofs.Phases.{stopped_phase}
-use Rattle.user_law.specs.Source.{Source, Logs, rolls_back, comes_to, number_named, arity_of}
+use Rattle.user_law.specs.Source.{Source, Logs, rolls_back, looks, comes_to, number_named}
+use Rattle.user_law.specs.Source.{arity_of}
 use Rattle.user_law.specs.State.{UserStanding, Ready, Idle, Owed, Unusable, UserState, stands_as}
 use Rattle.user_law.specs.State.{state_after}
-use Rattle.user_law.specs.Answers.{UserRuns, UserCallsWith, UserCallsTo, UserCallsNamed, UserCalls}
+use Rattle.user_law.specs.Answers.{UserRuns, UserRunsAs, UserCallsWith, UserCallsTo}
+use Rattle.user_law.specs.Answers.{UserCallsNamed, UserCalls}
 use Rattle.user_law.specs.Answers.{UserShows, UserLasts, has_next_seal, has_next_count, finished}
 use Rattle.user_law.specs.Answers.{found_by_seal, found_as, RecoveryEnds, UserRecovers, UserPowers}
 use Rattle.user_law.specs.Answers.{UserAnswers}
 use Rattle.user_law.specs.Keeps.{IsOwedAt, HasNextSeal, UserKeepsAs, UserKeeps}
 use Rattle.user_law.specs.Stays.{IsPowerCut}
 use Rattle.user_law.specs.Seen.{source_in, plain, plain_standing, HasOwedPhase}
-use Rattle.user_law.proofs.Cases.{runs_by, tells_by, recovers_by, powers_by}
+use Rattle.user_law.proofs.Cases.{runs_by, looks_by, tells_by, recovers_by, powers_by}
 use Rattle.user_law.proofs.Keeping.{owed_sealing}
 use Rattle.user_law.proofs.Sealing.{seal_kept}
 
@@ -154,9 +156,18 @@ module _ (program : Program) (super : Words) (logs : Logs) (agrees : Agrees prog
           by_case (inr (inl same)) = same_ready standing same
           by_case (inr (inr ends)) = ready_phased s call ends
 
+      as_phased : s.standing ≡ Ready → (call : Pending) (looks : Bool) →
+          UserRunsAs looks p s image call a v → Phased v
+      as_phased standing call true is =
+          ⊎_elim (same_ready standing)
+          (λ (none : (a ≡ answer.NoMemory) × (v ≡ stands_as Idle s)).
+          plain_phased Idle s (λ no. no) none.1)
+          (looks_by p s v image call a is)
+      as_phased standing call false is = runs_phased standing call is
+
       with_phased : s.standing ≡ Ready → (call : Pending) (same : Bool) →
           UserCallsWith same p s image call a v → Phased v
-      with_phased standing call true is = runs_phased standing call is
+      with_phased standing call true is = as_phased standing call (looks p call.tx) is
       with_phased standing call false is = same_ready standing is.1
 
       to_phased : s.standing ≡ Ready → (call : Pending) (count : Option ℕ) →

@@ -1,7 +1,8 @@
 -- The events of a command, from what the machine and the device did.
-use Rattle.std.proofs.Common.{◌≡◌, inl, inr, ℕ, ◌+◌, ◌*◌, ◌≤◌, ◌==◌, ◌&&◌, Bool, true, false}
+use Rattle.std.proofs.Common.{◌≡◌, ◌⊎◌, inl, inr, ℕ, ◌+◌, ◌*◌, ◌≤◌, ◌==◌, ◌&&◌, Bool, true, false}
 use Rattle.std.proofs.Common.{if◌then◌else◌, List, [], length, Option, Some, None, ℤ, pos, int_eq}
 use Rattle.std.proofs.Common.{refl, sym, ap, ◌∙◌, subst, arith}
+use Rattle.std.specs.Option.{option_map_or}
 use Rattle.std.proofs.lemmas.Bool.Decides.{Decides-int_eq}
 use Rattle.cache_model.specs.Cache.{Words, view}
 use Rattle.cache_model.specs.Collapse.{bad}
@@ -16,7 +17,12 @@ use Rattle.pool_map.specs.declared.shapes.Shapes.{Shapes}
 use Rattle.c_types.specs.Shapes.{shapes_of}
 use Rattle.pm_machine.specs.declared.records.Policy.{Policy}
 use Rattle.pm_machine.specs.declared.image.Image.{Image}
+use Rattle.pm_machine.specs.declared.effect.End.{End}
+use Rattle.pm_machine.specs.declared.effect.End.TheVariants.{Halted, Trapped}
 use Rattle.tx_run.specs.Called.{Called, IsTxCalled}
+use Rattle.tx_run.specs.Looked.{look_answer, look_at}
+use Rattle.tx_run.specs.declared.looking.LookAnswer.{LookAnswer}
+use Rattle.tx_run.specs.declared.looking.LookAnswer.TheVariants as looked
 use Rattle.tx_run.specs.Due.{due_call}
 use Rattle.tx_run.specs.declared.answer.CallAnswer.{CallAnswer}
 use Rattle.tx_run.specs.declared.answer.CallAnswer.TheVariants as called
@@ -29,6 +35,7 @@ use Rattle.recovery.specs.Recovered.{Cleaned, Redid, IsRecovered, numbers_out, t
 use Rattle.recovery.specs.Recovered.{valid_in}
 use Rattle.recovery.specs.declared.answer.RecoverAnswer.{RecoverAnswer}
 use Rattle.recovery.specs.declared.answer.RecoverAnswer.TheVariants as recovered
+use Rattle.codegen.specs.Emit.{most_steps}
 use Rattle.cnvm_script.specs.declared.command.Command.{Command}
 use Rattle.cnvm_script.specs.declared.command.Command.TheVariants as command
 use Rattle.cnvm_session.specs.declared.answer.Answer.{Answer}
@@ -38,8 +45,9 @@ use Rattle.cnvm_session.specs.declared.mode.Mode.TheVariants as mode
 use Rattle.cnvm_session.specs.declared.program.Program.{Program}
 use Rattle.cnvm_session.specs.Commands as commanded
 use Rattle.cnvm_session.specs.Commands.{call_number, tx_parameters, fallen, Commanded}
-use Rattle.cnvm_session.specs.Marks.{rolls_back_of, policy_of, owes_marked}
-use Rattle.cnvm_session.specs.Outcomes.{answer_of_call, answer_of_recovery, RunsBy, RecoversBy}
+use Rattle.cnvm_session.specs.Marks.{rolls_back_of, looks_of, policy_of, owes_marked}
+use Rattle.cnvm_session.specs.Outcomes.{answer_of_call, answer_of_look, answer_of_recovery, RunsBy}
+use Rattle.cnvm_session.specs.Outcomes.{Looks, RunsAs, RecoversBy}
 use Rattle.cnvm_session.specs.Pool.{sizes_of}
 use Rattle.session_law.specs.Holds.{HoldsAs}
 use Rattle.session_law.specs.State as session
@@ -47,6 +55,7 @@ use Rattle.session_law.specs.State.{SourceState}
 use Rattle.user_law.specs.Played.{prepared, PlaysAs}
 use Rattle.user_law.specs.Seen.{PlayedLaw}
 use Rattle.user_law.proofs.Counting.{most_events, call_few, clean_few, redo_few}
+use Rattle.user_law.proofs.Looking.{calls_look, only_same}
 
 -- some events, not many, are played as the answer says
 abbrev Plays : ℕ → Answer → Device → Device → Type 0
@@ -211,27 +220,65 @@ module _ (program : Program) (d b : Device) (a : Answer) (n : Mode) (k k1 : ℕ)
       subst (λ (x : Answer). Performed x d b) (sym is.answer)
       (tx_plays (policy_of marked) program.image d b k k1 tx args is.tx_answer on is.called)
 
+  -- none where the call only looks
+  abbrev bound : (looks : Bool) → ℕ
+  bound looks = if looks then 0 else its_most
+
+  look_played : (end : End) → b ≡ d → PlaysAs (answer_of_look (look_answer end)) d [] b
+  look_played (Halted v) same = same
+  look_played (Trapped kind) same = same
+
+  look_plays : (tx : ℕ) (args : List ℤ) → d.on ≡ true →
+      Looks program.image tx args d a n b k k1 → Plays 0 a d b
+  look_plays tx args on is = by_answer (is.looked.on on)
+    where
+      told : (r : LookAnswer) → is.seen ≡ r → PlaysAs (answer_of_look r) d [] b → Plays 0 a d b
+      told r seen = none_played 0 a (answer_of_look r) d b
+          (is.answer ∙ ap answer_of_look seen)
+
+      by_answer : ((is.seen ≡ look_answer (look_at program.image tx args d).end)
+          × (k1 ≡ k + (look_at program.image tx args d).steps))
+          ⊎ ((is.seen ≡ looked.NoMemory) × (k1 ≡ k)) → Plays 0 a d b
+      by_answer (inl seen) = told (look_answer (look_at program.image tx args d).end) seen.0
+          (look_played (look_at program.image tx args d).end is.same)
+      by_answer (inr seen) = told looked.NoMemory seen.0 (inl is.same)
+
+  runs_as_play : (looks marked : Bool) (tx : ℕ) (args : List ℤ) → d.on ≡ true →
+      RunsAs looks marked program.image tx args d a n b k k1 → Plays (bound looks) a d b
+  runs_as_play true marked tx args on is = look_plays tx args on is
+  runs_as_play false marked tx args on is = runs_play marked tx args on is
+
   with_plays : (same : Bool) (tx : ℕ) (args : List ℤ) → d.on ≡ true →
-      commanded.CallsWith same program tx args d a n b k k1 → Performed a d b
-  with_plays true tx args on is = runs_play (rolls_back_of program tx) tx args on is
-  with_plays false tx args on is = none_played its_most a answer.RefusedArity d b is.0 is.2
+      commanded.CallsWith same program tx args d a n b k k1 →
+      Plays (bound (looks_of program tx)) a d b
+  with_plays true tx args on is =
+      runs_as_play (looks_of program tx) (rolls_back_of program tx) tx args on is
+  with_plays false tx args on is =
+      none_played (bound (looks_of program tx)) a answer.RefusedArity d b is.0 is.2
 
   to_plays : (count : Option ℕ) (tx : ℕ) (args : List ℤ) → d.on ≡ true →
-      commanded.CallsTo count program tx args d a n b k k1 → Performed a d b
-  to_plays None tx args on is = none_played its_most a answer.RefusedUnknown d b is.0 is.2
+      commanded.CallsTo count program tx args d a n b k k1 →
+      Plays (bound (looks_of program tx)) a d b
+  to_plays None tx args on is =
+      none_played (bound (looks_of program tx)) a answer.RefusedUnknown d b is.0 is.2
   to_plays (Some count) tx args on is = with_plays (count == length args) tx args on is
 
   named_plays : (number : Option ℕ) (args : List ℤ) → d.on ≡ true →
-      commanded.CallsNamed number program args d a n b k k1 → Performed a d b
+      commanded.CallsNamed number program args d a n b k k1 →
+      Plays (bound (option_map_or (looks_of program) number false)) a d b
   named_plays None args on is = none_played its_most a answer.RefusedUnknown d b is.0 is.2
   named_plays (Some tx) args on is = to_plays (tx_parameters program.image tx) tx args on is
 
   calls_play : (m : Mode) (name : List ℕ) (args : List ℤ) → (m ≡ mode.Ready → d.on ≡ true) →
-      commanded.Calls program name args m d a n b k k1 → Performed a d b
+      commanded.Calls program name args m d a n b k k1 →
+      Plays (bound (calls_look program (command.Call name args))) a d b
   calls_play mode.Ready name args on is = named_plays (call_number program name) args (on refl) is
-  calls_play mode.Down name args on is = none_played its_most a answer.RefusedDown d b is.0 is.2
+  calls_play mode.Down name args on is =
+      none_played (bound (calls_look program (command.Call name args))) a answer.RefusedDown d b
+      is.0 is.2
   calls_play (mode.Unusable kind) name args on is =
-      none_played its_most a (answer.RefusedUnusable kind) d b is.0 is.2
+      none_played (bound (calls_look program (command.Call name args))) a
+      (answer.RefusedUnusable kind) d b is.0 is.2
 
   shows_play : (m : Mode) (shapes : Shapes) (s : Sizes) →
       commanded.Shows shapes s m d a n b k k1 → Performed a d b
@@ -299,7 +346,7 @@ module _ (program : Program) (d b : Device) (a : Answer) (n : Mode) (k k1 : ℕ)
           recovers_play choice (owes_marked program (powered choice d)) (is.2 rises fits)
 
   commanded_plays : (c : Command) (m : Mode) → (m ≡ mode.Ready → d.on ≡ true) →
-      Commanded program c m d a n b k k1 → Performed a (prepared c a d) b
+      Commanded program c m d a n b k k1 → Plays (bound (calls_look program c)) a (prepared c a d) b
   commanded_plays (command.Call name args) m on is = calls_play m name args on is
   commanded_plays (command.Stop left) m on is =
       none_played its_most a answer.Silent (prepared (command.Stop left) a d) b is.0 is.2
@@ -323,6 +370,9 @@ is_on program super m d s (session.Unusable kind) holds is =
 
 pub played_law : PlayedLaw
 played_law program logs super c m n d b s a k k1 count holds is =
-    subst (λ (most : ℕ). Plays (10 * most + 4 * (sizes_of program).records + 64) a
-    (prepared c a d) b) count.most
-    (commanded_plays program d b a n k k1 c m (is_on program super m d s s.standing holds) is)
+    subst (λ (looks : Bool). Plays (if looks then 0 else
+    10 * most_steps (sizes_of program) (length program.typed.lines)
+    + 4 * (sizes_of program).records + 64) a (prepared c a d) b) (sym (only_same program logs c))
+    (subst (λ (most : ℕ). Plays (if calls_look program c then 0 else
+    10 * most + 4 * (sizes_of program).records + 64) a (prepared c a d) b) count.most
+    (commanded_plays program d b a n k k1 c m (is_on program super m d s s.standing holds) is))

@@ -11,11 +11,13 @@ use Rattle.cnvm_session.specs.declared.answer.Answer.{Answer}
 use Rattle.cnvm_session.specs.declared.answer.Answer.TheVariants as answer
 use Rattle.cnvm_session.specs.declared.program.Program.{Program}
 use Rattle.cnvm_session.specs.Commands.{call_number}
+use Rattle.cnvm_session.specs.Marks.{looks_of}
 use Rattle.session_law.specs.Agrees.{Agrees}
 use Rattle.session_law.specs.State.{Pending, SourceState}
 use Rattle.session_law.specs.Answers as machine
 use Rattle.session_law.specs.Holds.{Holds}
-use Rattle.session_law.specs.History.{call_to, called_by, waiting_of, is_retired, recovered_by}
+use Rattle.session_law.specs.History.{call_to, counted, called_by, waiting_of, is_retired}
+use Rattle.session_law.specs.History.{recovered_by}
 use Rattle.session_law.specs.History.{done_by}
 use Rattle.session_law.specs.Law.{IsWordCommand}
 use Rattle.session_law.specs.Ran.{found_by, Moment, SessionStep}
@@ -58,6 +60,21 @@ called_all call answer.RefusedUnknown = inl refl
 called_all call answer.RefusedArity = inl refl
 called_all call answer.RefusedNumbers = inl refl
 called_all call (answer.RefusedPick line) = inl refl
+
+-- a call that isn't counted gives none
+counted_all : (program : Program) (number : Option ℕ) (args : List ℤ) (a : Answer)
+    → NoneOrAll (call_to number args) (called_by (call_to (counted program number) args) a)
+counted_all program None args a = called_all [] a
+counted_all program (Some tx) args a = by_mark (looks_of program tx)
+  where
+    none : NoneOrAll [] (called_by [] a) → called_by [] a ≡ []
+    none (inl is) = is
+    none (inr is) = is
+
+    by_mark : (looks : Bool) → NoneOrAll (call_to (Some tx) args)
+        (called_by (call_to (if looks then None else Some tx) args) a)
+    by_mark true = inl (none (called_all [] a))
+    by_mark false = called_all (call_to (Some tx) args) a
 
 module _ (s : SourceState) (image : Words) where
   abbrev waiting : List Pending
@@ -146,7 +163,7 @@ module _ (program : Program) (logs : Logs) (s v : UserState) (image : Words) (a 
   subject_few command.Last = omega arith
 
   done_all : (c : Command) → NoneOrAll (subject_of p s c) (done_by program (plain s) image c a)
-  done_all (command.Call name args) = called_all (call_to (call_number program name) args) a
+  done_all (command.Call name args) = counted_all program (call_number program name) args a
   done_all (command.Stop left) = inl refl
   done_all (command.Fault at) = inl refl
   done_all (command.Power choice) =

@@ -19,7 +19,7 @@ use Rattle.cnvm_script.specs.declared.command.Command.TheVariants as command
 use Rattle.cnvm_session.specs.declared.answer.Answer.{Answer}
 use Rattle.cnvm_session.specs.declared.answer.Answer.TheVariants as answer
 use Rattle.session_law.specs.State.{Pending}
-use Rattle.user_law.specs.Source.{Source, number_named, arity_of, rolls_back}
+use Rattle.user_law.specs.Source.{Source, number_named, arity_of, rolls_back, looks, means}
 use Rattle.user_law.specs.Source.{comes_to}
 use Rattle.user_law.specs.State.{UserStanding, Ready, Idle, Owed, Unusable, UserState, stands_as}
 use Rattle.user_law.specs.State.{state_after}
@@ -67,10 +67,25 @@ UserRuns p s image call answer.RefusedNumbers t = NumbersAreOut image × (t ≡ 
 UserRuns p s image call a t =
     (a ≡ call_told_by p s call) × (t ≡ finished Ready p s call)
 
+-- A call that only looks: the source comes to this value, on a pool that stays as it is, or to this
+-- trap, and nothing changes. Or memory was wanting, and nothing is owed.
+abbrev pub UserLooks : Source → UserState → Pending → Answer → UserState → Type 0
+UserLooks p s call (answer.Done value logged) t =
+    (means p s.pool call ≡ Done s.pool value) × (logged ≡ 0) × (t ≡ s)
+UserLooks p s call (answer.Aborted kind) t = (means p s.pool call ≡ Trap kind) × (t ≡ s)
+UserLooks p s call answer.NoMemory t = t ≡ stands_as Idle s
+UserLooks p s call a t = ⊥
+
+-- a call that is run, by whether its transaction only looks
+abbrev pub UserRunsAs : (looks : Bool) → Source → UserState → Words → Pending → Answer →
+    UserState → Type 0
+UserRunsAs true p s image call a t = UserLooks p s call a t
+UserRunsAs false p s image call a t = UserRuns p s image call a t
+
 -- a call that has as many arguments as the transaction has parameters is run
 abbrev pub UserCallsWith : Bool → Source → UserState → Words → Pending → Answer →
     UserState → Type 0
-UserCallsWith true p s image call a t = UserRuns p s image call a t
+UserCallsWith true p s image call a t = UserRunsAs (looks p call.tx) p s image call a t
 UserCallsWith false p s image call a t = StaysWith answer.RefusedArity s a t
 
 abbrev pub UserCallsTo : Option ℕ → Source → UserState → Words → Pending → Answer →

@@ -1,12 +1,13 @@
 -- Checks of the definitions themselves: the answers tell what the user knows, and a command has
 -- one end. So without failures a script has one list of answers, whatever the devices are.
-use Rattle.std.specs.Prelude.{◌≡◌, ℕ, List, [], ◌∷◌, pos}
+use Rattle.std.specs.Prelude.{◌≡◌, ℕ, true, List, [], ◌∷◌, pos}
 use Rattle.std.specs.List.{AllByRecursion}
 use Rattle.cache_model.specs.Cache.{Words}
 use Rattle.cache_model.specs.declared.choice.Choice.{Choice}
 use Rattle.pmem.specs.Device.{Device}
 use Rattle.pool_layout.specs.declared.limits.Sizes.{Sizes}
 use Rattle.pool_layout.specs.declared.places.TheConstants.{DONE, MARK, SEAL}
+use Rattle.rules_law.specs.typed.Programs.{IsWellTyped}
 use Rattle.cnvm_script.specs.declared.command.Command.{Command}
 use Rattle.cnvm_script.specs.declared.command.Command.TheVariants as command
 use Rattle.cnvm_session.specs.declared.answer.Answer.{Answer}
@@ -16,6 +17,7 @@ use Rattle.session_law.specs.Ran.{found_by}
 use Rattle.user_law.specs.Source.{Source}
 use Rattle.user_law.specs.State.{UserStanding, Ready, Idle, Owed, Unusable, UserState}
 use Rattle.user_law.specs.Answers.{found_as, UserAnswers}
+use Rattle.user_law.specs.Played.{only_looks}
 use Rattle.user_law.specs.Ran.{UserMoment, UserStep, UserRan}
 use Rattle.user_law.specs.Run.{TextMeaning, IsUserRun}
 
@@ -60,11 +62,12 @@ FindsPool p s image (command.Power choice) =
     (image MARK ≡ pos 0) × CanRecover (found_as s.standing p s image).standing
 FindsPool p s image c = Unit {0}
 
--- And it has that end, whatever the state and the image are; `power` has it where it finds a
--- pool.
+-- And it has that end, whatever the state and the image are; `power` has it where it finds a pool,
+-- and a call that only looks in a well typed program, whose source leaves the pool.
 abbrev pub SomeEndLaw : Type 0
 SomeEndLaw =
     (p : Source) (s : UserState) (image : Words) (c : Command) → FindsPool p s image c →
+    (only_looks p c ≡ true → IsWellTyped p.tables) →
     (a : Answer) × (t : UserState) × CameToEnd a × UserAnswers p s image c a t
 
 -- The user knows the same at both moments; the devices may differ.

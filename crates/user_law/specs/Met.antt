@@ -1,6 +1,6 @@
 -- The premises of the laws of chains can be met: a new pool has a step, a text with a meaning has a
--- run, a call comes to its end, and one is cut off at its seal, after which both recoveries are
--- possible.
+-- run, a call comes to its end, one only looks, and one is cut off at its seal, after which both
+-- recoveries are possible.
 use Rattle.std.specs.Prelude.{◌≡◌, ℕ, true, false, List, [], ◌∷◌, Some, None, pos, codes, flat_map}
 use Rattle.cache_model.specs.Cache.{Words, blank}
 use Rattle.cache_model.specs.declared.choice.Rest.TheVariants.{Old, New}
@@ -11,6 +11,8 @@ use Rattle.pool_layout.specs.declared.limits.Sizes.{Sizes}
 use Rattle.pool_layout.specs.Sizes.{pool_lines}
 use Rattle.c_tree.specs.ExprTree as expr
 use Rattle.c_tree.specs.StmtTree as stmt
+use Rattle.c_tree.specs.declared.item.Marked.{Marked}
+use Rattle.c_tree.specs.declared.item.Marked.TheVariants.{Plain, Const}
 use Rattle.c_tree.specs.ItemTree.{FunctionTree, Function}
 use Rattle.cnvm_script.specs.declared.command.Command.TheVariants as command
 use Rattle.cnvm_session.specs.declared.answer.Answer.TheVariants as answer
@@ -21,6 +23,7 @@ use Rattle.session_law.specs.Ran.{found_by}
 use Rattle.user_law.specs.Source.{Source}
 use Rattle.user_law.specs.State.{Ready, Owed, UserState, first_state}
 use Rattle.user_law.specs.Answers.{has_next_seal, UserAnswers}
+use Rattle.user_law.specs.Played.{only_looks}
 use Rattle.user_law.specs.Keeps.{UserKeeps}
 use Rattle.user_law.specs.Ran.{UserMoment, UserStep, UserRan}
 use Rattle.user_law.specs.Run.{source_of, first_moment, TextMeaning, IsUserRun}
@@ -59,10 +62,10 @@ RunMetLaw =
     (flat_map answer_text (answer.Last (pos 0) (pos 0) ∷ []))
 
 -- a transaction that returns 7, and a program that has no other
-abbrev pub seven : FunctionTree
-seven = record {
+abbrev pub seven : Marked → FunctionTree
+seven mark = record {
   tx = true;
-  rolls_back = false;
+  mark = mark;
   result_type = Some stmt.Int;
   name = record { text = codes "seven"; place = 2 };
   parameters = [];
@@ -70,7 +73,7 @@ seven = record {
 }
 
 abbrev pub seven_source : Sizes → Source
-seven_source sizes = source_of (Function seven ∷ []) 10 sizes (λ pool call. 0)
+seven_source sizes = source_of (Function (seven Plain) ∷ []) 10 sizes (λ pool call. 0)
 
 abbrev pub call_of_seven : Pending
 call_of_seven = record { tx = 1; args = [] }
@@ -82,6 +85,19 @@ CallMetLaw =
     × UserStep (seven_source sizes) (command.Call (codes "seven") [])
     (blank_moment (seven_source sizes)) (answer.Done (pos 7) 0) y
     × (y.history ≡ call_of_seven ∷ [])
+
+-- the same of a transaction that only looks
+abbrev pub looking_source : Sizes → Source
+looking_source sizes = source_of (Function (seven Const) ∷ []) 11 sizes (λ pool call. 0)
+
+-- A call of it comes to its end, and leaves all as it was.
+abbrev pub LookMetLaw : Type 0
+LookMetLaw =
+    (sizes : Sizes) →
+    (only_looks (looking_source sizes) (command.Call (codes "seven") []) ≡ true)
+    × UserStep (looking_source sizes) (command.Call (codes "seven") [])
+    (blank_moment (looking_source sizes)) (answer.Done (pos 7) 0)
+    (blank_moment (looking_source sizes))
 
 -- the power cuts that keep the oldest versions, and the newest
 abbrev pub keep_old : Choice

@@ -1,7 +1,8 @@
 -- What a user sees of the device: a list of stores, flushes and fences, which is played on cache
 -- lines; where it is cut; and the most events that a command may have.
-use Rattle.std.specs.Prelude.{ℕ, ◌+◌, ◌*◌, ◌≡◌, ◌⊎◌, List, Option, Some, None}
-use Rattle.std.specs.Option.{option_or}
+use Rattle.std.specs.Prelude.{ℕ, ◌+◌, ◌*◌, ◌≡◌, ◌⊎◌, Bool, false, if◌then◌else◌, List, Option}
+use Rattle.std.specs.Prelude.{Some, None}
+use Rattle.std.specs.Option.{option_or, option_map_or}
 use Rattle.cache_model.specs.Collapse.{bad}
 use Rattle.cache_model.specs.Event.{CacheEvent}
 use Rattle.cache_model.specs.declared.choice.Choice.{Choice}
@@ -14,7 +15,7 @@ use Rattle.cnvm_script.specs.declared.command.Command.TheVariants as command
 use Rattle.cnvm_session.specs.declared.answer.Answer.{Answer}
 use Rattle.cnvm_session.specs.declared.answer.Answer.TheVariants as answer
 use Rattle.cnvm_session.specs.Commands.{fallen}
-use Rattle.user_law.specs.Source.{Source}
+use Rattle.user_law.specs.Source.{Source, number_named, looks}
 
 -- the device on which a command's events are played: a cut leaves one version of each line, and
 -- `stop` and `fault` say when the power goes or the device fails
@@ -51,7 +52,13 @@ PlaysAs answer.DeviceFault d es b = PlaysPart refusal.Failed d es b
 PlaysAs answer.NoMemory d es b = (b ≡ d) ⊎ PlaysPart refusal.NoMemory d es b
 PlaysAs a d es b = b ≡ d
 
--- The most events of a command: ten for each step of the longest run, four for each log record, and
--- those of the seal and of the end.
-abbrev pub events_bound : Source → ℕ
-events_bound p = 10 * most_steps p.sizes p.tokens + 4 * p.sizes.records + 64
+-- the command calls a transaction that only looks
+abbrev pub only_looks : Source → Command → Bool
+only_looks p (command.Call name args) = option_map_or (looks p) (number_named p name) false
+only_looks p c = false
+
+-- The most events of a command: none if it only looks; else ten for each step of the longest run,
+-- four for each log record, and those of the seal and of the end.
+abbrev pub events_bound : Source → Command → ℕ
+events_bound p c = if only_looks p c then 0
+    else 10 * most_steps p.sizes p.tokens + 4 * p.sizes.records + 64

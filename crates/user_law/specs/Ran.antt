@@ -25,7 +25,7 @@ pub record UserMoment : Type 0 where
 pub record UserStep (p : Source) (c : Command) (x : UserMoment)
     (a : Answer) (y : UserMoment) : Type 0 where
   pub events : List CacheEvent
-  pub few : length events ≤ events_bound p
+  pub few : length events ≤ events_bound p c
   pub played : PlaysAs a (prepared c a x.device) events y.device
   pub picks : TellsPick c a x.device
   pub meant : UserAnswers p x.state (found_by c x.device) c a y.state

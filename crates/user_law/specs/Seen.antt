@@ -83,7 +83,7 @@ PlayedLaw =
     (program : Program) (logs : Logs) (super : Words) (c : Command) (m n : Mode) (d b : Device)
     (s : SourceState) (a : Answer) (k k1 : ℕ) →
     HasCounts program logs → Holds program super m d s → Commanded program c m d a n b k k1 →
-    (events : List CacheEvent) × (length events ≤ events_bound (source_in program logs))
+    (events : List CacheEvent) × (length events ≤ events_bound (source_in program logs) c)
     × PlaysAs a (prepared c a d) events b
 
 -- What session_law says of a step's answer is what the user's definitions say, without the machine.

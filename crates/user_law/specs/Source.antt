@@ -9,6 +9,7 @@ use Rattle.c_lexer.specs.TokenList.{Tokens}
 use Rattle.c_constants.specs.Left.{LeavesTokens}
 use Rattle.c_tree.specs.ItemTree.{ItemTree, FunctionTree}
 use Rattle.c_tree.specs.ItemSpelling.{SpellsProgram}
+use Rattle.c_types.specs.Transactions.{is_abort, is_const}
 use Rattle.c_types.specs.Tables.{Tables, tables_of, index_of}
 use Rattle.c_types.specs.Shapes.{shapes_in, transactions_in}
 use Rattle.rules_law.specs.typed.Programs.{IsWellTyped}
@@ -49,14 +50,23 @@ arity_of p tx =
 
 -- whether the transaction is marked `abort`: where it traps, it is rolled back
 abbrev pub rolls_back : Source → (tx : ℕ) → Bool
-rolls_back p tx = option_map_or (λ (f : FunctionTree). f.rolls_back) (transaction p.tables tx) false
+rolls_back p tx = option_map_or (λ (f : FunctionTree). is_abort f.mark)
+    (transaction p.tables tx) false
+
+-- whether the transaction is marked `const`: it only looks at the pool
+abbrev pub looks : Source → (tx : ℕ) → Bool
+looks p tx = option_map_or (λ (f : FunctionTree). is_const f.mark)
+    (transaction p.tables tx) false
+
+-- what the source means of a call on a pool: the pool after it and a value, or a trap
+abbrev pub means : Source → PoolMap → Pending → Outcome
+means p pool call = transaction_means p.tables pool call.tx call.args p.sizes.ticks
 
 -- What a call comes to on a pool: a full log if it takes more records than the log has; else what
--- the source means: the pool after it and a value, or a trap.
+-- the source means.
 abbrev pub comes_to : Source → PoolMap → Pending → Outcome
 comes_to p pool call =
-    if nat_lt p.sizes.records (p.logged pool call) then Trap LogFull
-    else transaction_means p.tables pool call.tx call.args p.sizes.ticks
+    if nat_lt p.sizes.records (p.logged pool call) then Trap LogFull else means p pool call
 
 -- the pool that an image holds
 abbrev pub pool_of_image : Source → Words → PoolMap

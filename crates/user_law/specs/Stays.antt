@@ -13,9 +13,10 @@ use Rattle.cnvm_session.specs.declared.answer.Answer.TheVariants as answer
 use Rattle.session_law.specs.State.{Pending}
 use Rattle.session_law.specs.Ran.{found_by}
 use Rattle.user_law.specs.Source.{Source}
-use Rattle.user_law.specs.State.{Ready, Owed, Unusable, first_state}
+use Rattle.user_law.specs.State.{Ready, Idle, Owed, Unusable, stands_as, first_state}
 use Rattle.user_law.specs.Answers.{has_next_seal}
 use Rattle.user_law.specs.History.{pool_after_all}
+use Rattle.user_law.specs.Played.{only_looks}
 use Rattle.user_law.specs.Keeps.{UserKeeps}
 use Rattle.user_law.specs.Ran.{UserMoment, UserStep, UserRan}
 use Rattle.user_law.specs.Run.{first_moment, TextMeaning, source_with, IsUserRun}
@@ -73,6 +74,19 @@ CutUnsealedLaw =
 
 abbrev pub StaysLaw : Type 0
 StaysLaw = CutSealedLaw × SureLaw × OnceSealedLaw × CutUnsealedLaw
+
+-- A call that only looks leaves the device, the history and what the user knows; where memory was
+-- wanting the session stands idle.
+pub record HasLooked (x : UserMoment) (a : Answer) (y : UserMoment) : Type 0 where
+  pub device : y.device ≡ x.device
+  pub history : y.history ≡ x.history
+  pub state : (y.state ≡ x.state)
+      ⊎ ((a ≡ answer.NoMemory) × (y.state ≡ stands_as Idle x.state))
+
+abbrev pub UserLookLaw : Type 0
+UserLookLaw =
+    (p : Source) (c : Command) (x y : UserMoment) (a : Answer) →
+    only_looks p c ≡ true → UserStep p c x a y → HasLooked x a y
 
 -- The history leads from the first pool to the last one, and each of its entries is counted.
 pub record UserHasGrown (p : Source) (x y : UserMoment) : Type 0 where

@@ -4,19 +4,23 @@
 //! laws of `specs/`, each a clause of a function that does nothing.
 #![tactic(auto)]
 
-ghost use Rattle.user_law.specs.Stays.{StaysLaw, UserWholeLaw, UserKeptLaw, HeadLaw, RunHeadLaw};
+ghost use Rattle.user_law.specs.Stays.{StaysLaw, UserLookLaw, UserWholeLaw, UserKeptLaw, HeadLaw};
+ghost use Rattle.user_law.specs.Stays.{RunHeadLaw};
 ghost use Rattle.user_law.specs.Ends.{UserUninterruptedLaw, QuietScriptLaw, UserCallEndsLaw};
 ghost use Rattle.user_law.specs.Ends.{UserRecoveryEndsLaw};
 ghost use Rattle.user_law.specs.Determined.{OneStateLaw, OneEndLaw, SameAnswersLaw, SameScriptLaw};
 ghost use Rattle.user_law.specs.Determined.{SameOutputLaw, SomeEndLaw, OnePickLaw};
-ghost use Rattle.user_law.specs.Met.{StepMetLaw, RunMetLaw, CallMetLaw, CutMetLaw, CountNeededLaw};
+ghost use Rattle.user_law.specs.Met.{StepMetLaw, RunMetLaw, CallMetLaw, LookMetLaw, CutMetLaw};
+ghost use Rattle.user_law.specs.Met.{CountNeededLaw};
 ghost use Rattle.user_law.specs.Seen.{KeepsLaw, PlayedLaw, MeantLaw, SealKeptLaw, StepLaw, RanLaw};
 
 /// Of each chain, whatever the device and the machine are: once an image had the seal of a call,
 /// the history of each later moment that takes calls has the call, over any number of cuts and
-/// faults; and the pool is the one to which the history leads. It does nothing.
+/// faults; a call that only looks changes nothing; and the pool is the one to which the history
+/// leads. It does nothing.
 pub fn chain_law()
     ensures stays { StaysLaw }
+    ensures look { UserLookLaw }
     ensures whole { UserWholeLaw }
     ensures kept { UserKeptLaw }
     ensures head { HeadLaw }
@@ -57,11 +61,13 @@ pub fn determined_law()
 {}
 
 /// The premises of the laws of chains can be met: by a new pool, a run of each text that has a
-/// meaning, a call that comes to its end, and one that is cut off at its seal. It does nothing.
+/// meaning, a call that comes to its end, one that only looks, and one that is cut off at its seal.
+/// It does nothing.
 pub fn met_law()
     ensures step { StepMetLaw }
     ensures run { RunMetLaw }
     ensures call { CallMetLaw }
+    ensures look { LookMetLaw }
     ensures cut { CutMetLaw }
     ensures count { CountNeededLaw }
 {}

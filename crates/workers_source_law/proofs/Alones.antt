@@ -1,7 +1,7 @@
 -- A worker's own lines are steps of its own state, and no other line changes that.
-use Rattle.std.proofs.Common.{◌≡◌, inl, inr, ℕ, suc, Bool, true, false, ◌==◌, List, [], ◌∷◌, ◌++◌}
-use Rattle.std.proofs.Common.{Option, Some, length, ℤ, refl, sym, ap, subst, eq-eqb, ◌<◌, nat_lt}
-use Rattle.std.proofs.Common.{arith}
+use Rattle.std.proofs.Common.{◌≡◌, inl, inr, ⊎_elim, ℕ, suc, Bool, true, false, ◌==◌, List, []}
+use Rattle.std.proofs.Common.{◌∷◌, ◌++◌, Option, Some, length, ℤ, refl, sym, ap, subst, eq-eqb}
+use Rattle.std.proofs.Common.{◌<◌, nat_lt, arith}
 use Rattle.std.proofs.lemmas.Bool.{eqb-true, eqb-false, ltb-false}
 use Rattle.cache_model.specs.Cache.{Words}
 use Rattle.cache_model.specs.declared.choice.Choice.{Choice}
@@ -11,14 +11,15 @@ use Rattle.cnvm_script.specs.declared.command.Command.TheVariants as session
 use Rattle.cnvm_session.specs.declared.answer.Answer.{Answer}
 use Rattle.cnvm_session.specs.declared.answer.Answer.TheVariants as answer
 use Rattle.cnvm_session.specs.declared.program.Program.{Program}
+use Rattle.cnvm_session.specs.Marks.{rolls_back_of, looks_of}
 use Rattle.workers_script.specs.declared.command.WorkersCommand.{WorkersCommand}
 use Rattle.workers_script.specs.declared.command.WorkersCommand.TheVariants as command
 use Rattle.workers_session.specs.declared.line.WorkersLine.{WorkersLine}
 use Rattle.workers_session.specs.declared.line.WorkersLine.TheVariants as line
 use Rattle.session_law.specs.Agrees.{Agrees}
 use Rattle.session_law.specs.State.{Pending, Standing, Down, SourceState, standing_as}
-use Rattle.session_law.specs.Answers.{RunsBy, CallsWith, CallsTo, CallsNamed, Calls, Powers}
-use Rattle.session_law.specs.Answers.{Answers}
+use Rattle.session_law.specs.Answers.{RunsBy, RunsAs, CallsWith, CallsTo, CallsNamed, Calls}
+use Rattle.session_law.specs.Answers.{Powers, Answers}
 use Rattle.workers_source_law.specs.States.{States, RestStays}
 use Rattle.workers_source_law.specs.Lines.{Owes, StartLines, Ends, TurnLine, TurnLines}
 use Rattle.workers_source_law.specs.Lines.{worker_image, RecoveryLines, PowerLines}
@@ -160,6 +161,13 @@ module _ (program : Program) where
             (s worker) (t worker)
         told c answer.NoMemory is = stay s t same
         told c answer.RefusedDown is = stay s t same
+        told c answer.RefusedNumbers is =
+            kept (Told (worker_image program v d) c answer.RefusedNumbers) (
+              ⊎_elim (λ answers. inl (subst (λ (u : SourceState).
+                  Answers program (s v) (worker_image program v d) c answer.RefusedNumbers u)
+                  (sym same_own) answers)) (λ out. inr out) is,
+              same_own,
+            )
         told c a is =
             kept (Told (worker_image program v d) c a) (
               subst (λ (u : SourceState). Answers program (s v) (worker_image program v d) c a u)
@@ -353,14 +361,17 @@ module _ (program : Program) (s : SourceState) (tx : ℕ) (args : List ℤ) wher
       runs a t image
       (subst (λ (c : Pending). Ends program c a owing t) (same_call is.0 is.1) is.2)
 
--- what a session answers to a call that takes these arguments and isn't marked
+-- what a session answers to a call that takes these arguments, isn't marked and may store
 answers_as : (program : Program) (name : List ℕ) (args : List ℤ) (a : Answer) (s r t : SourceState)
     (image : Words) (begins : BeginsAlone program name args s r)
-    → RunsBy false program s image begins.tx args a t
+    → looks_of program begins.tx ≡ false → RunsBy false program s image begins.tx args a t
     → Answers program s image (session.Call name args) a t
-answers_as program name args a s r t image begins runs =
-    let marked = subst (λ (b : Bool). RunsBy b program s image begins.tx args a t)
+answers_as program name args a s r t image begins stores runs =
+    let unmarked = subst (λ (b : Bool). RunsAs false b program s image begins.tx args a t)
     (sym begins.plain) runs in
+    let marked = subst (λ (b : Bool).
+    RunsAs b (rolls_back_of program begins.tx) program s image begins.tx args a t) (sym stores)
+    unmarked in
     let fits = subst (λ (b : Bool). CallsWith b program s image begins.tx args a t)
     (sym (eq-eqb (length args) (length args) refl)) marked in
     let takes = subst (λ (o : Option ℕ). CallsTo o program s image begins.tx args a t)
@@ -371,9 +382,10 @@ answers_as program name args a s r t image begins runs =
 
 pub as_call : AsCallLaw
 as_call program name args s r image begins = record {
-  interrupted = answers_as program name args answer.DeviceFault s r r image begins begins.owed;
-  ended = λ a t ends.
-      answers_as program name args a s r t image begins
-      (ended program s begins.tx args a t image
-      (subst (λ (u : SourceState). EndsAlone program a u t) begins.owed ends));
+  tx = begins.tx;
+  named = begins.named;
+  interrupted = begins.owed;
+  ended = λ a t ends. ended program s begins.tx args a t image
+      (subst (λ (u : SourceState). EndsAlone program a u t) begins.owed ends);
+  called = λ stores a t runs. answers_as program name args a s r t image begins stores runs;
 }

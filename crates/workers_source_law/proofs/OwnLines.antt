@@ -1,8 +1,8 @@
 -- What each single line says of the worker that its command names.
-use Rattle.std.proofs.Common.{◌≡◌, inl, inr, ℕ, ◌<◌, Bool, true, false, ◌&&◌, nat_lt, ◌==◌}
+use Rattle.std.proofs.Common.{◌≡◌, ◌⊎◌, inl, inr, ℕ, ◌<◌, Bool, true, false, ◌&&◌, nat_lt, ◌==◌}
 use Rattle.std.proofs.Common.{if◌then◌else◌, List, [], ◌∷◌, Option, None, Some, length, ℤ, pos}
 use Rattle.std.proofs.Common.{int_eq, refl, ap, subst, sym, ◌∙◌, arith}
-use Rattle.std.proofs.lemmas.Bool.{ltb-true}
+use Rattle.std.proofs.lemmas.Bool.{ltb-true, eqb-true}
 use Rattle.std.proofs.lemmas.Bool.Decides.{Decides-int_eq}
 use Rattle.cache_model.specs.Cache.{Words}
 use Rattle.pool_layout.specs.declared.places.TheConstants.{DONE, LAST, ATTEMPT, MARK}
@@ -20,7 +20,7 @@ use Rattle.cnvm_session.specs.declared.answer.Answer.{Answer}
 use Rattle.cnvm_session.specs.declared.answer.Answer.TheVariants as answer
 use Rattle.cnvm_session.specs.declared.program.Program.{Program}
 use Rattle.cnvm_session.specs.Commands.{call_number, tx_parameters}
-use Rattle.cnvm_session.specs.Marks.{rolls_back_of}
+use Rattle.cnvm_session.specs.Marks.{rolls_back_of, looks_of}
 use Rattle.workers_session.specs.declared.line.WorkersLine.{WorkersLine}
 use Rattle.workers_session.specs.declared.line.WorkersLine.TheVariants as line
 use Rattle.workers_session.specs.WorkersState.{busy_line, marked_line, refused_first, refusal_at}
@@ -30,11 +30,12 @@ use Rattle.workers_session.specs.WorkersCommands.{LastsWorker}
 use Rattle.session_law.specs.Source.{source_parameters}
 use Rattle.session_law.specs.Agrees.{Agrees}
 use Rattle.session_law.specs.State.{Standing, Ready, Down, Unusable, SourceState}
-use Rattle.session_law.specs.Answers.{CallsWith, CallsTo, CallsNamed, Calls, Shows, Lasts, Answers}
+use Rattle.session_law.specs.Answers.{RunsAs, CallsWith, CallsTo, CallsNamed, Calls, Shows}
+use Rattle.session_law.specs.Answers.{Lasts, Answers}
 use Rattle.session_law.proofs.Reading.{kind_read, is_marked}
 use Rattle.workers_source_law.specs.Lines.{worker_image, TellsState}
 use Rattle.workers_source_law.specs.Law.{Instant, WorkerHolds, AllHold}
-use Rattle.workers_source_law.specs.Alone.{IsBusy, IsBarred}
+use Rattle.workers_source_law.specs.Alone.{IsBusy, IsBarred, RefusesLook}
 
 -- what the standing of an image says of it
 
@@ -129,6 +130,8 @@ module _ (program : Program) (worker : ℕ) (x : Instant) where
   abbrev pub Tells : Command → Answer → Type 0
   Tells c answer.NoMemory = Unit {0}
   Tells c answer.RefusedDown = Unit {0}
+  Tells c answer.RefusedNumbers =
+      Answers program s image c answer.RefusedNumbers s ⊎ RefusesLook program image c s
   Tells c a = Answers program s image c a s
 
   -- what a line says of this worker, where its command is to start it, show it or tell its last
@@ -242,6 +245,26 @@ module _ (program : Program) (worker : ℕ) (x : Instant) where
               (sym (sym (agrees.parameters tx) ∙ takes))
               (subst (λ (b : Bool). CallsWith b program s image tx args a s) (sym fits) is))
 
+          -- the numbers are at their end, by whether the transaction only looks
+          numbers_say : (looks : Bool) (count : ℕ) → looks_of program tx ≡ looks
+              → at ≡ stands.Numbers → tx_parameters program.image tx ≡ Some count
+              → (count == length args) ≡ true
+              → Tells (session.Call name args) answer.RefusedNumbers
+          numbers_say false count stores is takes fits =
+              inl (calls_with count true answer.RefusedNumbers takes fits
+              (subst (λ (b : Bool). RunsAs b (rolls_back_of program tx) program s image tx args
+              answer.RefusedNumbers s) (sym stores) (numbers_of image is, refl)))
+          numbers_say true count looks is takes fits =
+              inr (record {
+                tx = tx;
+                named = named;
+                takes = sym (agrees.parameters tx) ∙ takes
+                    ∙ ap (λ (i : ℕ). Some i) (eqb-true count (length args) fits);
+                looks = looks;
+                ready = ready;
+                out = (numbers_of image is, refl);
+              })
+
           begins_as : (st : device.Standing) (count : ℕ) → at ≡ st
               → tx_parameters program.image tx ≡ Some count → (count == length args) ≡ true
               → BeginsAs st program.image worker tx args x.scene lines y → Started
@@ -252,7 +275,7 @@ module _ (program : Program) (worker : ℕ) (x : Instant) where
           begins_as stands.Numbers count is takes fits begins = (
             line.Plain answer.RefusedNumbers,
             begins.0,
-            calls_with count true answer.RefusedNumbers takes fits (numbers_of image is, refl),
+            numbers_say (looks_of program tx) count refl is takes fits,
           )
           begins_as (stands.Unusable kind) count is takes fits begins = absurd begins
           begins_as stands.Off count is takes fits begins = absurd begins

@@ -17,6 +17,7 @@ use Rattle.session_law.proofs.RolledBack.{call_rolled_back, power_rolled_back}
 use Rattle.session_law.proofs.KeepingChains.{chain_rolled_back}
 use Rattle.session_law.proofs.Exact.{run_exact, run_held}
 use Rattle.session_law.proofs.Ending.{uninterrupted, each_recovery_ends}
+use Rattle.session_law.proofs.LookedAt.{looked_at}
 use Rattle.session_law.proofs.law.Goals as goal
 
 pub returns-clause-session : goal.returns-clause-session
@@ -87,3 +88,6 @@ returns-clause-held_run c = run_held
 
 pub returns-clause-ends : goal.returns-clause-ends
 returns-clause-ends c = (uninterrupted, each_recovery_ends)
+
+pub returns-clause-look : goal.returns-clause-look
+returns-clause-look c = looked_at
