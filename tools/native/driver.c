@@ -11,6 +11,7 @@
                           done
        beside FILE N M NAME A..   the same with half of the threads on another pool, of which it
                           tells what `last` tells
+       looks N M LOOK NAME A..    the same where half of the threads call LOOK, without arguments
 
    The first answer of an opening is that of its recovery. --stop is a `stop` of the opening itself;
    --old keeps OLD as shadow.h says. With --told the calls are read first, and then run without an
@@ -109,17 +110,17 @@ static void *run_share(void *given) {
     return NULL;
 }
 
-/* The words tell how many threads there are, how often each runs a call, and the call. Every other
-   thread has the other pool. */
-static void run_threads(POOL *other, char **words, int count) {
+/* The words tell how many threads there are, and how often each runs the call. Every other thread
+   has the other pool and the other call. */
+static void run_threads(POOL *other, char **words, struct call call, struct call other_call) {
     pthread_t threads[MOST_THREADS];
     struct share shares[MOST_THREADS];
-    struct call call = call_of(words + 2, count - 2);
     int64_t done = 0;
     int most = (int)number(words[0]);
     if (most > MOST_THREADS) fail("too many threads");
     for (int i = 0; i < most; i++) {
-        shares[i] = (struct share){i % 2 ? other : pool, call, number(words[1]), 0};
+        shares[i] = (struct share){i % 2 ? other : pool, i % 2 ? other_call : call,
+                                   number(words[1]), 0};
         if (pthread_create(&threads[i], NULL, run_share, &shares[i]) != 0) fail("no thread");
     }
     for (int i = 0; i < most; i++) {
@@ -136,7 +137,8 @@ static void tell_last(const char *before, POOL *of, const char *after) {
 static void run_beside(char **words, int count) {
     POOL *other = POOL_OPEN(words[0], CNVM_NOSYNC, NULL, NULL);
     if (other == NULL) fail("no other pool");
-    run_threads(other, words + 1, count - 1);
+    struct call call = call_of(words + 3, count - 3);
+    run_threads(other, words + 1, call, call);
     tell_last(" ", other, "\n");
     POOL_CLOSE(other);
 }
@@ -152,7 +154,11 @@ static void command(char *line) {
     } else if (count == 2 && strcmp(words[0], "stop") == 0) {
         cut_at = events_so_far() + (unsigned long)number(words[1]);
     } else if (count >= 4 && strcmp(words[0], "threads") == 0) {
-        run_threads(pool, words + 1, count - 1);
+        struct call call = call_of(words + 3, count - 3);
+        run_threads(pool, words + 1, call, call);
+        printf("\n");
+    } else if (count >= 5 && strcmp(words[0], "looks") == 0) {
+        run_threads(pool, words + 1, call_of(words + 4, count - 4), call_of(words + 3, 1));
         printf("\n");
     } else if (count >= 5 && strcmp(words[0], "beside") == 0) {
         run_beside(words + 1, count - 1);
@@ -162,10 +168,11 @@ static void command(char *line) {
     fflush(stdout);
 }
 
-/* What another process may read while this one runs, and after it was killed. */
+/* What another process may read while this one runs, and after it was killed. The answer of a call
+   goes where that of the call before isn't: a kill may come before the call counts as ended. */
 struct told {
     volatile uint64_t begun, ended;
-    volatile int64_t value;
+    volatile int64_t values[2];
 };
 
 static struct told *map_told(const char *path) {
@@ -193,7 +200,7 @@ static void run_told(struct told *told) {
     }
     for (size_t i = 0; i < count; i++) {
         told->begun = i + 1;
-        told->value = run(pool, &calls[i]).value;
+        told->values[i % 2] = run(pool, &calls[i]).value;
         told->ended = i + 1;
     }
     free(calls);

@@ -13,7 +13,8 @@ use Rattle.c_fragment.specs.Translation.{c_function}
 use Rattle.c_file.specs.declared.entry.Entry.{Entry}
 use Rattle.c_file.specs.declared.pieces.Wording.TheVariants.{Element}
 use Rattle.c_file.specs.declared.program.TheConstants.{NUMBERS_BEGIN, DIGEST, PARAMETERS}
-use Rattle.c_file.specs.declared.program.TheConstants.{ROLLS_BACK, FUNCTIONS, RUN_BEGINS, RUN_ENDS}
+use Rattle.c_file.specs.declared.program.TheConstants.{ROLLS_BACK, LOOKS, FUNCTIONS, RUN_BEGINS}
+use Rattle.c_file.specs.declared.program.TheConstants.{RUN_ENDS}
 use Rattle.c_file.specs.Pieces.{worded_from}
 
 -- one constant, a line of an enum
@@ -55,11 +56,15 @@ flag false = codes "0, "
 abbrev pub flag_item : Entry → List ℕ
 flag_item e = flag e.rolls_back
 
--- of each transaction, the number of its parameters, and whether a trap rolls it back
+abbrev pub looks_item : Entry → List ℕ
+looks_item e = flag e.looks
+
+-- of each transaction, the number of its parameters, whether a trap rolls it back, and whether it
+-- only looks
 unfoldable pub tables_text : List Entry → List ℕ
 tables_text es =
     PARAMETERS.now ++ (flat_map parameters_item es ++ (ROLLS_BACK.now ++ (flat_map flag_item es
-    ++ codes "0};\n")))
+    ++ (LOOKS.now ++ (flat_map looks_item es ++ codes "0};\n")))))
 
 unfoldable pub numbers_text : Wanted → List Entry → List Function → List ℕ
 numbers_text wanted es us =

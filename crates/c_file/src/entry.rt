@@ -8,13 +8,14 @@ use nvm_base::Text;
 use std::alloc::{AllocError, Global};
 
 /// A transaction: its name, the function of the machine that it runs, the number of its parameters,
-/// and whether a trap rolls it back.
+/// whether a trap rolls it back, and whether it only looks.
 #[derive(Drop)]
 pub struct Entry {
     pub name: Text,
     pub function: u32,
     pub parameters: u32,
     pub rolls_back: bool,
+    pub looks: bool,
 }
 
 #[tactic(auto, unfolding(crate::specs::Pieces::entry_name))]

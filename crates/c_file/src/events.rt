@@ -62,6 +62,7 @@ static inline void cn_flush(struct cn_pool *p, uint64_t line) {
 }
 
 static inline void cn_fence(struct cn_pool *p) {
+    if (p->looks) return; /* there is nothing to wait for, and no event */
     cn_event(p, 2);
     cn_drain(p);
 }

@@ -60,20 +60,24 @@ static void cn_close(struct cn_pool *p) {
     if (p == NULL) return;
     if (p->words != NULL) munmap(p->words, CN_BYTES);
     if (p->file >= 0) close(p->file);
-    pthread_mutex_destroy(&p->lock);
+    pthread_mutex_destroy(&p->kept->lock);
+    free(p->kept);
     free(p);
 }
 
 /* a pool that isn't mapped yet */
 static struct cn_pool *cn_new(int file, struct cnvm_fault *fault) {
     struct cn_pool *p = calloc(1, sizeof *p);
-    if (p == NULL || pthread_mutex_init(&p->lock, NULL) != 0) {
+    struct cn_kept *kept = calloc(1, sizeof *kept);
+    if (p == NULL || kept == NULL || pthread_mutex_init(&kept->lock, NULL) != 0) {
+        free(kept);
         free(p);
         close(file);
         cn_fail(fault, CNVM_NOMEMORY, 0);
         return NULL;
     }
     p->file = file;
+    p->kept = kept;
     return p;
 }
 

@@ -5,18 +5,18 @@ pub const HEAP: &str = r#"/* -- Free slots, as three levels of bits. Slots are c
 
 static inline void cn_slot_freed(struct cn_pool *p, uint64_t slot) {
     uint64_t s = slot - 1;
-    p->free_slots[s / 64] |= UINT64_C(1) << (s % 64);
-    p->free_groups[s / 4096] |= UINT64_C(1) << (s / 64 % 64);
-    p->free_blocks |= UINT64_C(1) << (s / 4096);
+    p->kept->free_slots[s / 64] |= UINT64_C(1) << (s % 64);
+    p->kept->free_groups[s / 4096] |= UINT64_C(1) << (s / 64 % 64);
+    p->kept->free_blocks |= UINT64_C(1) << (s / 4096);
 }
 
 static inline void cn_slot_taken(struct cn_pool *p, uint64_t slot) {
     uint64_t s = slot - 1;
-    p->free_slots[s / 64] &= ~(UINT64_C(1) << (s % 64));
-    if (p->free_slots[s / 64] != 0) return;
-    p->free_groups[s / 4096] &= ~(UINT64_C(1) << (s / 64 % 64));
-    if (p->free_groups[s / 4096] != 0) return;
-    p->free_blocks &= ~(UINT64_C(1) << (s / 4096));
+    p->kept->free_slots[s / 64] &= ~(UINT64_C(1) << (s % 64));
+    if (p->kept->free_slots[s / 64] != 0) return;
+    p->kept->free_groups[s / 4096] &= ~(UINT64_C(1) << (s / 64 % 64));
+    if (p->kept->free_groups[s / 4096] != 0) return;
+    p->kept->free_blocks &= ~(UINT64_C(1) << (s / 4096));
 }
 
 /* the number of the lowest bit; some bit is set */
@@ -24,10 +24,10 @@ static inline uint64_t cn_lowest(uint64_t bits) { return (uint64_t)__builtin_ctz
 
 /* FIND: the least slot whose header is 0, or 0 */
 static inline uint64_t cn_find(struct cn_pool *p) {
-    if (p->free_blocks == 0) return 0;
-    uint64_t block = cn_lowest(p->free_blocks);
-    uint64_t group = 64 * block + cn_lowest(p->free_groups[block]);
-    return 64 * group + cn_lowest(p->free_slots[group]) + 1;
+    if (p->kept->free_blocks == 0) return 0;
+    uint64_t block = cn_lowest(p->kept->free_blocks);
+    uint64_t group = 64 * block + cn_lowest(p->kept->free_groups[block]);
+    return 64 * group + cn_lowest(p->kept->free_slots[group]) + 1;
 }
 
 static void cn_look_for_free_slots(struct cn_pool *p) {
@@ -52,8 +52,9 @@ static inline void cn_put(struct cn_pool *p, uint64_t x, uint64_t value) {
 /* The place of a heap word: where it is if this run has a record of it, else where it goes. */
 static inline struct cn_place *cn_place_of(struct cn_pool *p, uint64_t x) {
     uint64_t i = x * UINT64_C(0x9E3779B97F4A7C15) >> (64 - CN_PLACE_BITS);
-    while (p->places[i].run == p->run && p->places[i].word != x) i = (i + 1) % CN_PLACES;
-    return &p->places[i];
+    struct cn_place *places = p->kept->places;
+    while (places[i].run == p->run && places[i].word != x) i = (i + 1) % CN_PLACES;
+    return &places[i];
 }
 
 /* Appends a record of a heap word, five events, if this run has none; 7 if the log is full. */
@@ -88,18 +89,18 @@ static inline uint64_t cn_store_at(struct cn_pool *p, uint64_t x, uint64_t value
     if (x >= CN_HEAP) return 0;
     if (p->rolls_back && cn_log(p, x) != 0) return CNVM_LOGFULL;
     cn_put(p, x, value);
-    if (p->is_dirty[x / 8]) return 0;
-    p->is_dirty[x / 8] = 1;
+    if (p->kept->is_dirty[x / 8]) return 0;
+    p->kept->is_dirty[x / 8] = 1;
     if (p->dirty_from == p->dirty_to) p->dirty_from = p->dirty_to = 0;
-    p->dirty[p->dirty_to++] = (uint32_t)(x / 8);
+    p->kept->dirty[p->dirty_to++] = (uint32_t)(x / 8);
     return 0;
 }
 
 /* FLUSH: flushes the first dirty line; 0 if there was none */
 static inline uint64_t cn_flush_first(struct cn_pool *p) {
     if (p->dirty_from == p->dirty_to) return 0;
-    uint64_t line = p->dirty[p->dirty_from++];
-    p->is_dirty[line] = 0;
+    uint64_t line = p->kept->dirty[p->dirty_from++];
+    p->kept->is_dirty[line] = 0;
     cn_flush(p, CN_HEAP_LINE + line);
     return 1;
 }

@@ -3,7 +3,8 @@
 ghost use Rattle.std.specs.Prelude.{◌≡◌, ◌++◌, ◌<◌, ◌^◌, OnOk, flat_map};
 ghost use Rattle.pm_machine.specs.Checked.{most_registers};
 ghost use Rattle.c_file.specs.Program.{number_line, four_sizes, sizes_text, counts_text};
-ghost use Rattle.c_file.specs.Program.{digest_line, parameters_item, flag, flag_item, tables_text};
+ghost use Rattle.c_file.specs.Program.{digest_line, parameters_item, flag, flag_item, looks_item};
+ghost use Rattle.c_file.specs.Program.{tables_text};
 ghost use Rattle.c_file.specs.Program.{digest_number, digest_item, numbers_text, case_head};
 ghost use Rattle.c_file.specs.Program.{case_text, cases_from, code_text};
 
@@ -26,6 +27,9 @@ pub const PARAMETERS: &str = "static const unsigned char cn_parameters[] = {";
 
 pub const ROLLS_BACK: &str = "0};
 static const unsigned char cn_rolls_back[] = {";
+
+pub const LOOKS: &str = "0};
+static const unsigned char cn_looks[] = {";
 
 pub const FUNCTIONS: &str = r#"
 /* ---------------------------------------------------------------- the program's functions
@@ -166,10 +170,10 @@ fn push_parameters(alloc: Global, text: &mut Text, entries: &[Entry]) -> Result<
     Ok(())
 }
 
-fn push_flag(text: &mut Text, rolls_back: bool) -> Result<(), AllocError>
-    ensures { OnOk result (text.new ≡ text.old ++ flag rolls_back) }
+fn push_flag(text: &mut Text, holds: bool) -> Result<(), AllocError>
+    ensures { OnOk result (text.new ≡ text.old ++ flag holds) }
 {
-    if rolls_back {
+    if holds {
         text.push("1, ")
     } else {
         text.push("0, ")
@@ -185,6 +189,15 @@ fn push_flags(text: &mut Text, entries: &[Entry]) -> Result<(), AllocError>
     Ok(())
 }
 
+fn push_looks(text: &mut Text, entries: &[Entry]) -> Result<(), AllocError>
+    ensures { OnOk result (text.new ≡ text.old ++ flat_map looks_item entries.now) }
+{
+    for entry in entries {
+        push_flag(text, entry.looks)?;
+    }
+    Ok(())
+}
+
 #[tactic(auto, unfolding(crate::specs::Program::tables_text))]
 fn push_tables(alloc: Global, text: &mut Text, entries: &[Entry]) -> Result<(), AllocError>
     ensures { OnOk result (text.new ≡ text.old ++ tables_text entries.now) }
@@ -193,6 +206,8 @@ fn push_tables(alloc: Global, text: &mut Text, entries: &[Entry]) -> Result<(), 
     push_parameters(alloc, text, entries)?;
     text.push(ROLLS_BACK)?;
     push_flags(text, entries)?;
+    text.push(LOOKS)?;
+    push_looks(text, entries)?;
     text.push("0};\n")
 }
 

@@ -59,11 +59,12 @@ static void cn_begin(struct cn_pool *p, uint64_t tx) {
     p->records = 0;
     p->run++;
     p->rolls_back = cn_rolls_back[tx - 1];
+    p->looks = 0;
 }
 
 /* Forgets what is dirty. */
 static void cn_end(struct cn_pool *p) {
-    while (p->dirty_from < p->dirty_to) p->is_dirty[p->dirty[p->dirty_from++]] = 0;
+    while (p->dirty_from < p->dirty_to) p->kept->is_dirty[p->kept->dirty[p->dirty_from++]] = 0;
 }
 
 /* Runs a sealed call and ends it. */
@@ -88,6 +89,18 @@ static struct cnvm_answer cn_refused(int status, uint64_t trap) {
     return (struct cnvm_answer){status, (int)trap, 0, 0};
 }
 
+/* Runs a transaction that only looks: it stores nothing, and its fence is none. What is known of
+   the call stands in a copy, so it may run beside others of its kind. */
+static struct cnvm_answer cn_look(const struct cn_pool *p, uint64_t tx, const uint64_t *args) {
+    struct cn_pool look = *p;
+    if (p->words[CN_MARK] != 0) return cn_refused(CNVM_UNUSABLE, p->words[CN_MARK]);
+    cn_begin(&look, tx);
+    look.looks = 1;
+    uint64_t value = cn_run(&look, tx, args);
+    if (look.trap != 0) return cn_refused(CNVM_ABORTED, look.trap);
+    return (struct cnvm_answer){CNVM_DONE, 0, (int64_t)value, 0};
+}
+
 static struct cnvm_answer cn_call_alone(struct cn_pool *p, uint64_t tx, const uint64_t *args) {
     const uint64_t *w = p->words;
     if (w[CN_MARK] != 0) return cn_refused(CNVM_UNUSABLE, w[CN_MARK]);
@@ -97,25 +110,45 @@ static struct cnvm_answer cn_call_alone(struct cn_pool *p, uint64_t tx, const ui
     return cn_settle(p, tx, args);
 }
 
+/* Waits until a call may look: beside others that look, and after one that stores. */
+static void cn_begin_look(struct cn_pool *p) {
+    pthread_mutex_lock(&p->kept->lock);
+    __atomic_add_fetch(&p->kept->looking, 1, __ATOMIC_ACQUIRE);
+    pthread_mutex_unlock(&p->kept->lock);
+}
+
+/* Waits until a call is alone. No look begins from then on, and each ends within its ticks. */
+static void cn_begin_alone(struct cn_pool *p) {
+    pthread_mutex_lock(&p->kept->lock);
+    while (__atomic_load_n(&p->kept->looking, __ATOMIC_ACQUIRE) != 0) sched_yield();
+}
+
 static struct cnvm_answer cn_call(struct cn_pool *p, uint64_t tx, const uint64_t *args) {
-    pthread_mutex_lock(&p->lock);
-    struct cnvm_answer answer = cn_call_alone(p, tx, args);
-    pthread_mutex_unlock(&p->lock);
+    struct cnvm_answer answer;
+    if (cn_looks[tx - 1]) {
+        cn_begin_look(p);
+        answer = cn_look(p, tx, args);
+        __atomic_sub_fetch(&p->kept->looking, 1, __ATOMIC_RELEASE);
+    } else {
+        cn_begin_alone(p);
+        answer = cn_call_alone(p, tx, args);
+        pthread_mutex_unlock(&p->kept->lock);
+    }
     return answer;
 }
 
 static uint64_t cn_word(struct cn_pool *p, uint64_t word) {
-    pthread_mutex_lock(&p->lock);
+    pthread_mutex_lock(&p->kept->lock);
     uint64_t value = p->words[word];
-    pthread_mutex_unlock(&p->lock);
+    pthread_mutex_unlock(&p->kept->lock);
     return value;
 }
 
 #ifdef CNVM_COUNT
 static void cn_events(struct cn_pool *p, uint64_t *events) {
-    pthread_mutex_lock(&p->lock);
+    pthread_mutex_lock(&p->kept->lock);
     memcpy(events, p->events, sizeof p->events);
-    pthread_mutex_unlock(&p->lock);
+    pthread_mutex_unlock(&p->kept->lock);
 }
 #endif
 

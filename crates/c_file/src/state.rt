@@ -41,6 +41,18 @@ enum {
 /* A place of the set of words that have records: a heap word, and the run that put it there. */
 struct cn_place { uint64_t word, run; };
 
+/* What a call that stores needs, and the lock. */
+struct cn_kept {
+    pthread_mutex_t lock;
+    uint64_t looking;                /* how many calls look right now */
+    /* heap lines that are stored to and not flushed, first store first; and whether a line is */
+    uint32_t dirty[CN_HEAP_LINES];
+    unsigned char is_dirty[CN_HEAP_LINES];
+    struct cn_place places[CN_PLACES]; /* what an earlier run put there counts as nothing */
+    /* free slots: a bit for each slot, for 64 of them, and for 4096 of them */
+    uint64_t free_slots[CN_GROUPS], free_groups[CN_GROUPS / 64 + 1], free_blocks;
+};
+
 /* A pool that is open. All but its words is volatile, and made anew at each opening. */
 struct cn_pool {
     uint64_t *words, *heap;          /* the mapped file, and the first heap word in it */
@@ -48,18 +60,13 @@ struct cn_pool {
     uint64_t page;                   /* bytes of a page */
     uint64_t from, to;               /* bytes to be written by the next fence, with CNVM_MSYNC */
     uint64_t events[3];              /* stores, flushes and fences, where they are counted */
-    pthread_mutex_t lock;
+    struct cn_kept *kept;
     /* of the call that runs */
     uint64_t ticks, open, trap;
     uint64_t records;                /* in the log */
     uint64_t run;                    /* its number since the pool was opened, from 1 on */
-    int rolls_back;
-    uint64_t dirty_from, dirty_to;   /* the places in use of this list of heap lines, which are */
-    uint32_t dirty[CN_HEAP_LINES];   /* stored to and not flushed, the first store first */
-    unsigned char is_dirty[CN_HEAP_LINES];
-    struct cn_place places[CN_PLACES]; /* what an earlier run put there counts as nothing */
-    /* free slots: a bit for each slot, for 64 of them, and for 4096 of them */
-    uint64_t free_slots[CN_GROUPS], free_groups[CN_GROUPS / 64 + 1], free_blocks;
+    int rolls_back, looks;
+    uint64_t dirty_from, dirty_to;   /* the places of `dirty` that are in use */
 };
 
 "#;

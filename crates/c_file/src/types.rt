@@ -7,7 +7,7 @@ pub const TYPES: &str = r#"#ifndef CNVM_ANSWER
 
 enum cnvm_status {
     CNVM_DONE,     /* it took effect and is durable: value, logged */
-    CNVM_ABORTED,  /* a `tx abort` trapped, and nothing of it is left: trap */
+    CNVM_ABORTED,  /* a `tx abort` or `tx const` trapped, and nothing of it is left: trap */
     CNVM_TRAPPED,  /* a `tx` trapped, and the pool is unusable from now on: trap */
     CNVM_UNUSABLE, /* refused, since an earlier call trapped: trap */
     CNVM_NUMBERS,  /* refused, since the pool's numbers are used up */

@@ -5,6 +5,7 @@ use Rattle.std.specs.Prelude.{List, [], ◌∷◌}
 use Rattle.pm_machine.specs.declared.op.TxEntry.{TxEntry}
 use Rattle.c_tree.specs.ItemTree.{FunctionTree}
 use Rattle.c_types.specs.Shapes.{transactions_of}
+use Rattle.c_types.specs.Transactions.{is_abort, is_const}
 use Rattle.c_file.specs.declared.entry.Entry.{Entry}
 use Rattle.cnvm_session.specs.declared.program.Program.{Program}
 use Rattle.cnvm_emit.specs.Name.{c_name}
@@ -14,7 +15,8 @@ entry_of tx f = record {
   name = c_name f.name.text;
   function = tx.function;
   parameters = tx.parameters;
-  rolls_back = f.rolls_back;
+  rolls_back = is_abort f.mark;
+  looks = is_const f.mark;
 }
 
 -- one for each transaction; as many as both lists have

@@ -49,6 +49,7 @@ fn entry_of(alloc: Global, typed: &Typed, number: u64, tx: TxEntry) -> Result<En
         function: tx.function,
         parameters: tx.parameters,
         rolls_back: typed.rolls_back(number),
+        looks: typed.looks(number),
     })
 }
 
