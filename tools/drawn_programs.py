@@ -4,10 +4,12 @@ code.
 Each program has constants, a root with fields and an array, objects in a list, helper functions,
 and a transaction of two arguments, with every assignment that the language has, declarations of one
 and of several names, `while`, `do` and `for` loops with `break` and `continue`, and expressions of
-all operators. Nothing in it traps: a divisor is from 1 to 256, an index stays within its array,
-loops are bounded, and a shift's count is taken modulo 64."""
+all operators. Nothing in these traps: a divisor is from 1 to 256, an index stays within its array,
+loops are bounded, and a shift's count is taken modulo 64. Three programs of four have a transaction
+that only looks too, which may trap at a null, an index, a divisor, or by `abort`."""
 
 import random
+import re
 
 FIELDS, LENGTH = ["a", "b", "c"], 4
 UPDATES = ["+=", "-=", "*=", "&=", "^=", "|="]
@@ -15,6 +17,10 @@ PLAIN = ["+", "-", "*", "&", "|", "^"]
 TRUTHS = ["<", "<=", ">", ">=", "==", "!=", "&&", "||"]
 # What stands before an expression that gives 0 or 1; gcc gets a cast there.
 TRUTH = "@"
+# What stands before what may trap; gcc gets a test there.
+TESTS = ["SOME", "WITHIN", "NONZERO"]
+# The transactions that only look.
+LOOKS = ["look", "peek", "behind", "ask"]
 
 
 class Drawn:
@@ -23,9 +29,19 @@ class Drawn:
     def __init__(self, seed):
         self.chance, self.locals, self.loops, self.names = random.Random(seed), [], 0, 0
         self.constants = {"SIZE": LENGTH, "LOW": self.chance.randint(-9, 9), "MORE": None}
+        # Whether what is drawn may not store, and whether there is a transaction that only looks.
+        self.only_looks, self.has_look = False, self.chance.random() < 0.75
         self.drawn = "\n".join(self.items()) + "\n"
-        self.text = self.drawn.replace(TRUTH, "")
-        self.calls = [(self.number(), self.number()) for _ in range(4)]
+        self.text = re.sub("|".join([TRUTH, *TESTS]), "", self.drawn)
+        self.calls = [call for _ in range(4) for call in (*self.looks(), self.call("work"))]
+        self.calls += self.looks()
+
+    def call(self, name):
+        return name, self.number(), self.number()
+
+    def looks(self):
+        """Calls of the transaction that only looks, if there is one."""
+        return [self.call("look") for _ in range(2 if self.has_look else 0)]
 
     def number(self):
         return self.chance.choice([0, 1, 2, 3, 7, -1, -2, 255, 1 << 40, -(1 << 62), (1 << 63) - 1,
@@ -50,6 +66,30 @@ class Drawn:
         yield from self.block(5, 1, calls=True)
         yield f"    return {self.expression(3)};"
         yield "}"
+        if self.has_look:
+            self.only_looks = True
+            yield from self.look()
+
+    def look(self):
+        """A transaction that only looks, with what it calls."""
+        for head, name in ("int64_t", "seen"), ("tx const int64_t", "look"):
+            self.locals = ["x", "y"]
+            yield f"{head} {name}(int64_t x, int64_t y) {{"
+            if self.chance.randrange(2):
+                yield f"    {self.risk()}"
+            yield from self.block(4, 1, calls=name == "look")
+            yield f"    return {self.expression(3)};"
+            yield "}"
+
+    def risk(self):
+        """A statement that may trap, in one way alone."""
+        local = self.chance.choice(self.locals)
+        divided = f"{self.value()} {self.chance.choice('/%')} NONZERO({local})"
+        return self.chance.choice([
+            f"if ({local} > 200) {{ abort(); }}",
+            f"{local} += root.t[WITHIN({local})];",
+            f"{local} = {divided};",
+            f"if ({local} > 0) {{ {local} ^= SOME(root.head)->next == NULL; }}"])
 
     def fields(self, type, names):
         """Declarations of these names, some of them together."""
@@ -90,7 +130,7 @@ class Drawn:
         return f"({left} {self.chance.choice(PLAIN)} {right})"
 
     def target(self):
-        kind = self.chance.randrange(5)
+        kind = 4 if self.only_looks else self.chance.randrange(5)
         if kind == 0:
             return f"root.{self.chance.choice(FIELDS)}"
         if kind == 1:
@@ -142,13 +182,16 @@ class Drawn:
         if kind == 5 and calls:
             # A local, since C leaves open whether a field is read before or after the call.
             target = self.chance.choice(self.locals)
-            update = self.chance.choice(UPDATES)
-            call = f"helper({self.value()}, {self.value()})"
+            update, name = self.chance.choice(UPDATES), "seen" if self.only_looks else "helper"
+            call = f"{name}({self.value()}, {self.value()})"
             if self.chance.randrange(2):
-                call = f"{self.value()} ? {call} : helper({self.value()}, {self.value()})"
+                call = f"{self.value()} ? {call} : {name}({self.value()}, {self.value()})"
             return [f"{target} {update} {call};"]
         if kind == 6 and calls:
             first, last = self.fresh(), self.fresh()
+            if self.only_looks:
+                return [f"struct Node *{first} = root.head;",
+                        f"{self.chance.choice(self.locals)} += SOME({first})->v;"]
             return [f"struct Node *{first} = root.head, *{last} = {first};",
                     f"{last}->v {self.chance.choice(UPDATES)} {self.expression(1)};",
                     f"{self.chance.choice(self.locals)} += {first}->v;"]
@@ -174,6 +217,7 @@ DARED = """tx int64_t push(int64_t value, int64_t n) {
         if (node == NULL) { return -1; }
         node->v = value + i;
         node->next = root.head;
+        if (root.head != NULL) { root.head->last = node; }
         root.head = node;
     }
     return n;
@@ -210,12 +254,34 @@ tx int64_t many(int64_t a, int64_t b, int64_t c, int64_t d, int64_t e, int64_t f
 tx int64_t none() {
     return root.a + root.b;
 }
+struct Node *node_at(int64_t n) {
+    struct Node *node = root.head;
+    while (n > 0) {
+        node = node->next;
+        n--;
+    }
+    return node;
+}
+tx const int64_t peek(int64_t n) {
+    return node_at(n & 15)->v;
+}
+tx const int64_t behind() {
+    return root.head->last->v;
+}
+tx const int64_t ask(int64_t p, int64_t q) {
+    int64_t sum = root.t[p & 7] + deep(q & 511);
+    if (sum > 200) { abort(); }
+    while (p > 1000) { sum += 1; }
+    return sum / q;
+}
 tx int64_t risk(int64_t p, int64_t q) {
     root.b += p;
     root.t[p & 3] = q;
     return root.t[p] / q;
 }
 """
+# How many arguments they have that don't have two.
+COUNTS = {"none": 0, "behind": 0, "peek": 1, "many": 9}
 
 
 class Daring(Drawn):
@@ -225,9 +291,9 @@ class Daring(Drawn):
         super().__init__(seed)
         sizes = [(4, 8, 2000), (16, 4, 100000), (64, 64, 300), (100, 256, 100000)]
         self.sizes = self.chance.choice(sizes)
-        works = [("work", p, q) for p, q in self.calls]
-        self.calls = [works.pop() if works and self.chance.random() < 0.1 else self.dared()
-                      for _ in range(40)]
+        works = self.calls
+        self.calls = [works.pop() if works and self.chance.random() < 0.2 else self.dared()
+                      for _ in range(50)]
         self.calls += [("risk", self.number(), self.number()) for _ in range(4)]
         self.calls += [("none",), ("push", 1, 1)]
 
@@ -236,7 +302,6 @@ class Daring(Drawn):
         yield from DARED.rstrip("\n").split("\n")
 
     def dared(self):
-        name = self.chance.choice(["push", "push", "drop", "dare", "dare", "many", "none"])
-        if name == "none":
-            return (name,)
-        return name, *(self.number() for _ in range(9 if name == "many" else 2))
+        name = self.chance.choice(["push", "push", "drop", "dare", "dare", "many", "none", "peek",
+                                   "behind", "ask"])
+        return name, *(self.number() for _ in range(COUNTS.get(name, 2)))
