@@ -124,7 +124,7 @@ tx abort int64_t fill(int64_t key, int64_t step, int64_t n) {
 }
 
 // The value of a key, or -1.
-tx int64_t get(int64_t key) {
+tx const int64_t get(int64_t key) {
     struct Node *node = found(root.top, key);
     if (node == NULL) { return -1; }
     return node->rest->value[place_of(node, key)];
@@ -239,7 +239,7 @@ int64_t count(struct Node *node, int64_t low, int64_t high, int64_t depth) {
 }
 
 // Gives 1 where the keys rise, all leaves are equally deep and the size is the number of keys.
-tx abort int64_t check() {
+tx const int64_t check() {
     if (root.top == NULL) { return root.size == 0; }
     int64_t depth = 0;
     for (struct Node *node = root.top; child(node, 0) != NULL; node = child(node, 0)) { depth++; }

@@ -48,8 +48,8 @@ tx abort int64_t put(int64_t a, int64_t b, int64_t c, int64_t value) {
     return value;
 }
 
-// Gives the key's value. It is rolled back where there is none.
-tx abort int64_t get(int64_t a, int64_t b, int64_t c) {
+// Gives the key's value, or traps where there is none. It only looks, so nothing is lost then.
+tx const int64_t get(int64_t a, int64_t b, int64_t c) {
     return find(a, b, c)->value;
 }
 
@@ -89,6 +89,6 @@ tx abort int64_t move(int64_t a, int64_t b, int64_t c, int64_t d, int64_t e, int
     return giver->value;
 }
 
-tx int64_t count() {
+tx const int64_t count() {
     return root.count;
 }
