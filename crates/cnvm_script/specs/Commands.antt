@@ -5,6 +5,7 @@
 -- lines rise strictly
 --     power new P..        the same with the newest
 --     show, last           nothing else stands on the line
+--     show dead            the same
 -- NAME is a name of a program text.
 -- No word at all, or a first word that begins with `#`, is no command. Any other list of words is
 -- bad. A script is the
@@ -17,7 +18,7 @@ use Rattle.cache_model.specs.declared.choice.Rest.{Rest}
 use Rattle.cache_model.specs.declared.choice.Rest.TheVariants.{Old, New}
 use Rattle.cnvm_script.specs.declared.command.Command.{Command}
 use Rattle.cnvm_script.specs.declared.command.Command.TheVariants.{Call, Stop, Fault, Power, Show}
-use Rattle.cnvm_script.specs.declared.command.Command.TheVariants.{Last}
+use Rattle.cnvm_script.specs.declared.command.Command.TheVariants.{ShowDead, Last}
 use Rattle.cnvm_script.specs.Lines.{lines, words_of_line}
 use Rattle.cnvm_script.specs.Name.{is_name}
 use Rattle.cnvm_script.specs.Number.{argument, event_number, pick}
@@ -65,6 +66,15 @@ power_of (word ∷ picks) =
     if bytes_eq word (codes "old") then choice_of Old picks
     else (if bytes_eq word (codes "new") then choice_of New picks else None)
 
+abbrev pub if_dead : List ℕ → Option Command
+if_dead word = if bytes_eq word (codes "dead") then Some ShowDead else None
+
+-- `show` alone, or with the word `dead`
+abbrev pub show_of : List (List ℕ) → Option Command
+show_of [] = Some Show
+show_of (word ∷ []) = if_dead word
+show_of (word ∷ other ∷ others) = None
+
 -- a command that stands alone on its line
 abbrev pub alone : Command → List (List ℕ) → Option Command
 alone command [] = Some command
@@ -76,7 +86,7 @@ command word others =
     else (if bytes_eq word (codes "stop") then option_map Stop (event_of others)
     else (if bytes_eq word (codes "fault") then option_map Fault (event_of others)
     else (if bytes_eq word (codes "power") then power_of others
-    else (if bytes_eq word (codes "show") then alone Show others
+    else (if bytes_eq word (codes "show") then show_of others
     else (if bytes_eq word (codes "last") then alone Last others
     else None)))))
 

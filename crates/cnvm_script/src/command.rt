@@ -16,6 +16,8 @@ pub enum Command {
     Power(Choice),
     /// Prints the pool.
     Show,
+    /// Prints the pool, also one that a trap has ended.
+    ShowDead,
     /// Prints what the last transaction left.
     Last,
 }

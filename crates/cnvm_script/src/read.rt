@@ -2,8 +2,8 @@
 
 ghost use Rattle.std.specs.Prelude.{◌≡◌, ◌∷◌, ◌++◌, map, bytes_eq, OnOk, option_to_list};
 ghost use Rattle.cnvm_script.specs.Commands.{alone, call_command, choice_of, command, each};
-ghost use Rattle.cnvm_script.specs.Commands.{event_of, line_meaning, meaning, power_of, rise};
-ghost use Rattle.cnvm_script.specs.Commands.{script_meaning};
+ghost use Rattle.cnvm_script.specs.Commands.{event_of, if_dead, line_meaning, meaning, power_of};
+ghost use Rattle.cnvm_script.specs.Commands.{rise, script_meaning, show_of};
 ghost use Rattle.cnvm_script.specs.Number.{argument, pick};
 ghost use Rattle.cnvm_script.specs.Reads.{Gives, GivesScript};
 
@@ -91,8 +91,8 @@ fn read_command(alloc: Global, word: &[u8], others: &[&[u8]]) -> Result<Command,
     if is_word(word, "power") {
         return read_power(alloc, others);
     }
-    if is_word(word, "show") && others.is_empty() {
-        return Ok(Command::Show);
+    if is_word(word, "show") {
+        return read_show(others);
     }
     if is_word(word, "last") && others.is_empty() {
         return Ok(Command::Last);
@@ -105,6 +105,27 @@ pub fn is_word(word: &[u8], text: &str) -> bool
     ensures { result ≡ bytes_eq word.now text.now }
 {
     word == text.as_bytes()
+}
+
+/// The command of the words after `show`.
+fn read_show(words: &[&[u8]]) -> Result<Command, LineFault>
+    ensures { Gives result (show_of (map (λ word. word.now) words.now)) }
+{
+    match words {
+        [] => Ok(Command::Show),
+        [word] => if_dead(word),
+        _ => Err(LineFault::Bad),
+    }
+}
+
+/// The command of `show` with this word.
+fn if_dead(word: &[u8]) -> Result<Command, LineFault>
+    ensures { Gives result (if_dead word.now) }
+{
+    if is_word(word, "dead") {
+        return Ok(Command::ShowDead);
+    }
+    Err(LineFault::Bad)
 }
 
 /// The single number after `stop` and `fault`.

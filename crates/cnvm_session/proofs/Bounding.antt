@@ -27,8 +27,9 @@ use Rattle.cnvm_session.specs.declared.program.Program.{Program}
 use Rattle.cnvm_session.specs.Marks.{is_marked, rolls_back_of, looks_of, policy_of, has_marked}
 use Rattle.cnvm_session.specs.Marks.{owes_marked}
 use Rattle.cnvm_session.specs.Outcomes.{RunsBy, RunsAs, RecoversBy}
-use Rattle.cnvm_session.specs.Commands.{Shows, Lasts, call_number, tx_parameters, CallsWith}
-use Rattle.cnvm_session.specs.Commands.{CallsTo, CallsNamed, Calls, fallen, Powers, Commanded}
+use Rattle.cnvm_session.specs.Commands.{Shows, ShowsDead, Lasts, call_number, tx_parameters}
+use Rattle.cnvm_session.specs.Commands.{CallsWith, CallsTo, CallsNamed, Calls, fallen, Powers}
+use Rattle.cnvm_session.specs.Commands.{Commanded}
 use Rattle.cnvm_session.specs.Steps.{bounded_steps, most_of_command, most_of_program}
 use Rattle.cnvm_session.specs.Laws.{MostLaw}
 use Rattle.cnvm_session.proofs.Calls.{look_counts, look_rises}
@@ -135,6 +136,13 @@ show_most most shapes s Ready d a n b k k1 h = none most k k1 h.2
 show_most most shapes s Down d a n b k k1 h = none most k k1 h.3
 show_most most shapes s (Unusable kind) d a n b k k1 h = none most k k1 h.3
 
+dead_most : (most : ℕ) (shapes : Shapes) (s : Sizes) (m : Mode) (d : Device) (a : Answer)
+    (n : Mode) (b : Device) (k k1 : ℕ) →
+    ShowsDead shapes s m d a n b k k1 → Few most k k1
+dead_most most shapes s Ready d a n b k k1 h = show_most most shapes s Ready d a n b k k1 h
+dead_most most shapes s Down d a n b k k1 h = show_most most shapes s Down d a n b k k1 h
+dead_most most shapes s (Unusable kind) d a n b k k1 h = none most k k1 h.3
+
 last_most : (most : ℕ) (m : Mode) (d : Device) (a : Answer) (n : Mode) (b : Device) (k k1 : ℕ) →
     Lasts m d a n b k k1 → Few most k k1
 last_most most Ready d a n b k k1 h = none most k k1 h.3
@@ -152,6 +160,8 @@ within_command program (command.Power choice) m n d b a k k1 h =
     (bad (memory_of d) choice.picks) refl refl h
 within_command program command.Show m n d b a k k1 h =
     show_most _ (shapes_of program.typed) program.image.parts.sizes m d a n b k k1 h
+within_command program command.ShowDead m n d b a k k1 h =
+    dead_most _ (shapes_of program.typed) program.image.parts.sizes m d a n b k k1 h
 within_command program command.Last m n d b a k k1 h = last_most _ m d a n b k k1 h
 
 -- where one element has the property, some element has it
@@ -187,6 +197,7 @@ command_more program (command.Call name args) d = bounded_more (has_marked progr
 command_more program (command.Stop left) d = bounded_more (has_marked program) program.image
 command_more program (command.Fault at) d = bounded_more (has_marked program) program.image
 command_more program command.Show d = bounded_more (has_marked program) program.image
+command_more program command.ShowDead d = bounded_more (has_marked program) program.image
 command_more program command.Last d = bounded_more (has_marked program) program.image
 
 pub command_most : MostLaw

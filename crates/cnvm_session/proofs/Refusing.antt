@@ -33,9 +33,9 @@ use Rattle.cnvm_session.specs.declared.program.Program.{Program}
 use Rattle.cnvm_session.specs.Marks.{rolls_back_of, looks_of, policy_of, owes_marked}
 use Rattle.cnvm_session.specs.Outcomes.{RunsBy, RunsAs, answer_of_call, mode_of_call, RecoversBy}
 use Rattle.cnvm_session.specs.Outcomes.{answer_of_look, answer_of_recovery}
-use Rattle.cnvm_session.specs.Commands.{Refused, Tells, Shows, Lasts, call_number, tx_parameters}
-use Rattle.cnvm_session.specs.Commands.{CallsWith, CallsTo, CallsNamed, Calls, fallen, Powers}
-use Rattle.cnvm_session.specs.Commands.{Commanded}
+use Rattle.cnvm_session.specs.Commands.{Refused, Tells, Shows, ShowsDead, Lasts, call_number}
+use Rattle.cnvm_session.specs.Commands.{tx_parameters, CallsWith, CallsTo, CallsNamed, Calls}
+use Rattle.cnvm_session.specs.Commands.{fallen, Powers, Commanded}
 use Rattle.cnvm_session.specs.Laws.{IsRefusal, IsBadPick, IsRefused, StaysOrMarks}
 use Rattle.cnvm_session.proofs.Cases.{by_standing}
 
@@ -160,6 +160,7 @@ tells_ready shapes s d answer.RecoveredNone n is h = absurd h
 tells_ready shapes s d (answer.RecoveredRedone v l) n is h = absurd h
 tells_ready shapes s d (answer.RecoveredTrap t) n is h = absurd h
 tells_ready shapes s d (answer.RecoveredAborted t) n is h = absurd h
+tells_ready shapes s d (answer.ShownDead t text) n is h = absurd h
 tells_ready shapes s d (answer.Last f v) n is h = absurd h
 tells_ready shapes s d answer.RefusedDown n is h = absurd h
 tells_ready shapes s d (answer.RefusedUnusable t) n is h = absurd h
@@ -177,6 +178,15 @@ shows_kept shapes s Ready d a n b k k1 is h = (h.1, inl (tells_ready shapes s d 
 shows_kept shapes s Down d a n b k k1 is h = refused_kept answer.RefusedDown Down d a n b k k1 h
 shows_kept shapes s (Unusable kind) d a n b k k1 is h =
     refused_kept (answer.RefusedUnusable kind) (Unusable kind) d a n b k k1 h
+
+dead_kept :
+    (shapes : Shapes) (s : Sizes) (m : Mode) (d : Device) (a : Answer) (n : Mode) (b : Device)
+    (k k1 : ℕ) →
+    IsRefusal a →
+    ShowsDead shapes s m d a n b k k1 → Kept m d n b k k1
+dead_kept shapes s Ready d a n b k k1 is h = shows_kept shapes s Ready d a n b k k1 is h
+dead_kept shapes s Down d a n b k k1 is h = shows_kept shapes s Down d a n b k k1 is h
+dead_kept shapes s (Unusable kind) d a n b k k1 is h = (h.2, inl h.1, h.3)
 
 lasts_kept : (m : Mode) (d : Device) (a : Answer) (n : Mode) (b : Device) (k k1 : ℕ) →
     Lasts m d a n b k k1 → Kept m d n b k k1
@@ -225,4 +235,6 @@ command_kept program (command.Power choice) m n d b a k k1 is h =
     (bad (memory_of d) choice.picks) refl refl is h
 command_kept program command.Show m n d b a k k1 is h =
     shows_kept (shapes_of program.typed) program.image.parts.sizes m d a n b k k1 is h
+command_kept program command.ShowDead m n d b a k k1 is h =
+    dead_kept (shapes_of program.typed) program.image.parts.sizes m d a n b k k1 is h
 command_kept program command.Last m n d b a k k1 is h = lasts_kept m d a n b k k1 h

@@ -1,5 +1,6 @@
--- Each answer is one line that ends with LF, with two exceptions: the answer of `stop` and `fault`
--- has no line, and that of `show` has the lines of the pool.
+-- Each answer is one line that ends with LF, with these exceptions: the answer of `stop` and `fault`
+-- has no line, and that of `show` has the lines of the pool; of `show dead`, in a pool that a trap
+-- has ended, they come after a line `dead KIND`.
 use Rattle.std.specs.Prelude.{ℕ, List, [], ◌++◌, codes}
 use Rattle.std.specs.Fmt.{decimal, signed_decimal}
 use Rattle.pmem.specs.declared.answer.Phase.{Phase}
@@ -10,8 +11,8 @@ use Rattle.cnvm_session.specs.declared.answer.Answer.TheVariants.{Silent, Done, 
 use Rattle.cnvm_session.specs.declared.answer.Answer.TheVariants.{Stopped, DeviceFault}
 use Rattle.cnvm_session.specs.declared.answer.Answer.TheVariants.{RecoveredNone}
 use Rattle.cnvm_session.specs.declared.answer.Answer.TheVariants.{RecoveredRedone, RecoveredTrap}
-use Rattle.cnvm_session.specs.declared.answer.Answer.TheVariants.{RecoveredAborted, Shown, Last}
-use Rattle.cnvm_session.specs.declared.answer.Answer.TheVariants.{NoMemory}
+use Rattle.cnvm_session.specs.declared.answer.Answer.TheVariants.{RecoveredAborted, Shown}
+use Rattle.cnvm_session.specs.declared.answer.Answer.TheVariants.{ShownDead, Last, NoMemory}
 use Rattle.cnvm_session.specs.declared.answer.Answer.TheVariants.{RefusedDown, RefusedUnusable}
 use Rattle.cnvm_session.specs.declared.answer.Answer.TheVariants.{RefusedUnknown, RefusedArity}
 use Rattle.cnvm_session.specs.declared.answer.Answer.TheVariants.{RefusedNumbers, RefusedPick}
@@ -37,6 +38,8 @@ answer_text (RecoveredTrap kind) = codes "recovered trap " ++ (trap_name kind ++
 answer_text (RecoveredAborted kind) =
     codes "recovered aborted " ++ (trap_name kind ++ codes "\n")
 answer_text (Shown lines) = lines
+answer_text (ShownDead kind lines) =
+    codes "dead " ++ (trap_name kind ++ (codes "\n" ++ lines))
 answer_text (Last done value) =
     codes "last " ++ (signed_decimal done ++ (codes " " ++ (signed_decimal value ++ codes "\n")))
 answer_text NoMemory = codes "no memory\n"

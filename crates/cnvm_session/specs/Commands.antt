@@ -11,6 +11,7 @@ use Rattle.pmem.specs.Device.{Device, memory_of, powered, with_left, with_armed}
 use Rattle.pool_layout.specs.declared.places.TheConstants.{LAST, DONE}
 use Rattle.pool_layout.specs.declared.limits.Sizes.{Sizes}
 use Rattle.pool_map.specs.declared.shapes.Shapes.{Shapes}
+use Rattle.pool_map.specs.declared.trap.TrapKind.{TrapKind}
 use Rattle.pool_map.specs.PoolFits.{PoolFits}
 use Rattle.pool_map.specs.PoolText.{pool_text}
 use Rattle.pm_machine.specs.HeapPool.{heap_of, pool_in}
@@ -23,7 +24,8 @@ use Rattle.cnvm_script.specs.declared.command.Command.TheVariants as command
 use Rattle.cnvm_session.specs.declared.mode.Mode.{Mode}
 use Rattle.cnvm_session.specs.declared.mode.Mode.TheVariants.{Ready, Down, Unusable}
 use Rattle.cnvm_session.specs.declared.answer.Answer.{Answer}
-use Rattle.cnvm_session.specs.declared.answer.Answer.TheVariants.{Silent, Shown, Last, NoMemory}
+use Rattle.cnvm_session.specs.declared.answer.Answer.TheVariants.{Silent, Shown, ShownDead}
+use Rattle.cnvm_session.specs.declared.answer.Answer.TheVariants.{Last, NoMemory}
 use Rattle.cnvm_session.specs.declared.answer.Answer.TheVariants.{RefusedDown, RefusedUnusable}
 use Rattle.cnvm_session.specs.declared.answer.Answer.TheVariants.{RefusedUnknown, RefusedArity}
 use Rattle.cnvm_session.specs.declared.answer.Answer.TheVariants.{RefusedPick}
@@ -56,6 +58,21 @@ Shows shapes s Ready d a n b k k1 = Tells shapes s d a n × (b ≡ d) × (k1 ≡
 Shows shapes s Down d a n b k k1 = Refused RefusedDown Down d a n b k k1
 Shows shapes s (Unusable kind) d a n b k k1 =
     Refused (RefusedUnusable kind) (Unusable kind) d a n b k k1
+
+-- The same of a pool that this trap has ended. It stays so, also without memory.
+abbrev pub TellsDead : Shapes → Sizes → TrapKind → Device → Answer → Type 0
+TellsDead shapes s kind d (ShownDead trap text) =
+    (trap ≡ kind) × (d.on ≡ true → PoolFits shapes (pool_in shapes s (heap_of s (view d.cache)))
+    → text ≡ pool_text shapes (pool_in shapes s (heap_of s (view d.cache))))
+TellsDead shapes s kind d NoMemory = Unit {0}
+TellsDead shapes s kind d a = ⊥
+
+-- only of such a pool the answer isn't that of `show`
+abbrev pub ShowsDead : Shapes → Sizes → Mode → Device → Answer → Mode → Device → (k k1 : ℕ) → Type 0
+ShowsDead shapes s Ready d a n b k k1 = Shows shapes s Ready d a n b k k1
+ShowsDead shapes s Down d a n b k k1 = Shows shapes s Down d a n b k k1
+ShowsDead shapes s (Unusable kind) d a n b k k1 =
+    TellsDead shapes s kind d a × (n ≡ Unusable kind) × (b ≡ d) × (k1 ≡ k)
 
 -- the number of the transaction of that name, counted from 1, and how many parameters a transaction
 -- of the image has
@@ -117,4 +134,6 @@ Commanded program (command.Fault at) m d a n b k k1 = Refused Silent m (with_arm
 Commanded program (command.Power choice) m d a n b k k1 = Powers program choice m d a n b k k1
 Commanded program command.Show m d a n b k k1 =
     Shows (shapes_of program.typed) program.image.parts.sizes m d a n b k k1
+Commanded program command.ShowDead m d a n b k k1 =
+    ShowsDead (shapes_of program.typed) program.image.parts.sizes m d a n b k k1
 Commanded program command.Last m d a n b k k1 = Lasts m d a n b k k1

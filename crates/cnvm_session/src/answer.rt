@@ -31,6 +31,8 @@ pub enum Answer {
     RecoveredAborted(TrapKind),
     /// The lines of the pool.
     Shown(Text),
+    /// The lines of a pool that this trap has ended.
+    ShownDead { kind: TrapKind, text: Text },
     /// How many transactions are done, and the value of the last.
     Last { done: i64, value: i64 },
     /// There was no memory for the command.

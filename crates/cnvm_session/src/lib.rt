@@ -32,4 +32,4 @@ pub use program::Program;
 pub use session::{Session, create, first_fallen, parameters, resume, start_from};
 pub use showing::{pool_in, pool_text};
 pub use text::answer_text;
-pub use traps::{Trapped, Traps};
+pub use traps::{StormCall, Trapped, Traps};

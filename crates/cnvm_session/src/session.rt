@@ -18,8 +18,8 @@ ghost use Rattle.cnvm_session.specs.Marks.{rolls_back_of, owes_marked};
 ghost use Rattle.cnvm_session.specs.Outcomes.{RunsBy, Looks, RunsAs, Runs, RecoversBy, Recovers};
 ghost use Rattle.cnvm_session.specs.Outcomes.{Opens};
 ghost use Rattle.cnvm_session.specs.Steps.{bounded_steps, most_of_command, most_of_program};
-ghost use Rattle.cnvm_session.specs.Commands.{Lasts, Shows, tx_parameters, CallsTo, Calls, fallen};
-ghost use Rattle.cnvm_session.specs.Commands.{Powers, Commanded};
+ghost use Rattle.cnvm_session.specs.Commands.{Lasts, Tells, Shows, TellsDead, ShowsDead};
+ghost use Rattle.cnvm_session.specs.Commands.{tx_parameters, CallsTo, Calls, fallen, Powers, Commanded};
 
 use crate::answer::Answer;
 use crate::creating::{StartFault, create_pool};
@@ -38,6 +38,7 @@ use nvm_base::Steps;
 use pm_machine::{Image, Spare, Stop};
 use pmem::{Pmem, PmemWork};
 use pool_layout::{DONE, LAST};
+use pool_map::TrapKind;
 use recovery::recover_with;
 use std::alloc::Global;
 use std::marker::Model;
@@ -226,6 +227,7 @@ impl Session {
             }
             Command::Power(choice) => self.power(alloc, program, choice, dev, steps),
             Command::Show => self.show(alloc, program, dev),
+            Command::ShowDead => self.show_dead(alloc, program, dev),
             Command::Last => self.last(dev),
         }
     }
@@ -491,13 +493,39 @@ impl Session {
         match self.mode {
             Mode::Down => Answer::RefusedDown,
             Mode::Unusable(kind) => Answer::RefusedUnusable(kind),
-            Mode::Ready => match pool_text(alloc, program, dev) {
-                Ok(text) => Answer::Shown(text),
-                Err(_) => {
-                    self.mode = Mode::Down;
-                    Answer::NoMemory
-                }
-            },
+            Mode::Ready => self.ready_pool(alloc, program, dev),
+        }
+    }
+
+    /// The lines of the pool, also of one that a trap has ended.
+    fn show_dead<P: PmemWork>(&mut self, alloc: Global, program: &Program, dev: &P) -> Answer
+        requires lines { (P.device dev.now).lines ≡ pool_lines program.now.image.parts.sizes }
+        ensures fault { result ≡ Answer.DeviceFault → ⊥ }
+        ensures shows { (k : ℕ) → ShowsDead (shapes_of program.now.typed)
+            program.now.image.parts.sizes self.old (P.device dev.now) result self.new
+            (P.device dev.now) k k }
+    {
+        match self.mode {
+            Mode::Down => Answer::RefusedDown,
+            Mode::Unusable(kind) => dead_pool(alloc, program, kind, dev),
+            Mode::Ready => self.ready_pool(alloc, program, dev),
+        }
+    }
+
+    /// The lines of a pool that takes calls. Without memory for them the session is down.
+    fn ready_pool<P: PmemWork>(&mut self, alloc: Global, program: &Program, dev: &P) -> Answer
+        requires ready { self.old ≡ Mode.Ready }
+        requires lines { (P.device dev.now).lines ≡ pool_lines program.now.image.parts.sizes }
+        ensures fault { result ≡ Answer.DeviceFault → ⊥ }
+        ensures tells { Tells (shapes_of program.now.typed) program.now.image.parts.sizes
+            (P.device dev.now) result self.new }
+    {
+        match pool_text(alloc, program, dev) {
+            Ok(text) => Answer::Shown(text),
+            Err(_) => {
+                self.mode = Mode::Down;
+                Answer::NoMemory
+            }
         }
     }
 
@@ -517,6 +545,19 @@ impl Session {
                 Answer::Last { done, value }
             }
         }
+    }
+}
+
+/// The lines of a pool that this trap has ended. Without memory for them it stays as it is.
+fn dead_pool<P: PmemWork>(alloc: Global, program: &Program, kind: TrapKind, dev: &P) -> Answer
+    requires lines { (P.device dev.now).lines ≡ pool_lines program.now.image.parts.sizes }
+    ensures fault { result ≡ Answer.DeviceFault → ⊥ }
+    ensures tells { TellsDead (shapes_of program.now.typed) program.now.image.parts.sizes kind
+        (P.device dev.now) result }
+{
+    match pool_text(alloc, program, dev) {
+        Ok(text) => Answer::ShownDead { kind, text },
+        Err(_) => Answer::NoMemory,
     }
 }
 

@@ -11,7 +11,7 @@ use pmem::Phase;
 use std::alloc::{AllocError, Global};
 
 /// The text of an answer: its line with the LF, nothing for `Silent`, and the pool's lines for
-/// `Shown`.
+/// `Shown`, and for `ShownDead` after a line of their own.
 pub fn answer_text(alloc: Global, answer: &Answer) -> Result<Text, AllocError>
     ensures { IfOk result (λ text. text ≡ answer_text answer.now) }
 {
@@ -29,6 +29,7 @@ pub fn answer_text(alloc: Global, answer: &Answer) -> Result<Text, AllocError>
         Answer::RecoveredTrap(kind) => name_text(alloc, "recovered trap ", kind.name()),
         Answer::RecoveredAborted(kind) => name_text(alloc, "recovered aborted ", kind.name()),
         Answer::Shown(lines) => text_of(alloc, lines.as_str()),
+        Answer::ShownDead { kind, text } => dead_text(alloc, kind.name(), text.as_str()),
         Answer::Last { done, value } => last_text(alloc, *done, *value),
         Answer::NoMemory => text_of(alloc, "no memory\n"),
         Answer::RefusedDown => text_of(alloc, "refused down\n"),
@@ -67,6 +68,18 @@ fn name_text(alloc: Global, head: &str, name: &str) -> Result<Text, AllocError>
     let mut text = text_of(alloc, head)?;
     text.push(name)?;
     text.push("\n")?;
+    Ok(text)
+}
+
+/// The line of the trap, followed by the pool's lines.
+fn dead_text(alloc: Global, name: &str, lines: &str) -> Result<Text, AllocError>
+    ensures { IfOk result (λ text.
+        text ≡ codes "dead " ++ (name.now ++ (codes "\n" ++ lines.now))) }
+{
+    let mut text = text_of(alloc, "dead ")?;
+    text.push(name)?;
+    text.push("\n")?;
+    text.push(lines)?;
     Ok(text)
 }
 

@@ -16,14 +16,23 @@ pub struct Trapped {
     pub line: Option<u64>,
 }
 
+/// A call of a storm: its round, counted from 1, and its text, if there was memory for it.
+#[derive(Drop)]
+pub struct StormCall {
+    pub round: u64,
+    pub call: Option<String>,
+}
+
 /// The first trap that ended the use of the pool, and the first that was rolled back; of a storm
-/// also the round of the first, counted from 1, and the call.
+/// also the round of the first, counted from 1, and the call, and the first call of `check` that
+/// wasn't 1.
 #[derive(Drop)]
 pub struct Traps {
     pub ended: Option<Trapped>,
     pub undone: Option<Trapped>,
     pub round: u64,
     pub call: Option<String>,
+    pub broken: Option<StormCall>,
 }
 
 impl Traps {
@@ -34,6 +43,7 @@ impl Traps {
             undone: None,
             round: 0,
             call: None,
+            broken: None,
         }
     }
 
@@ -78,6 +88,14 @@ impl Traps {
         if self.saw(answer, session) {
             self.round = round;
             self.call = last_call(alloc, commands);
+        }
+    }
+
+    /// Takes a broken check of a storm's round: `commands` are the round's up to it.
+    pub fn saw_broken(&mut self, alloc: Global, round: u64, commands: &[Command]) {
+        if self.broken.is_none() {
+            let call = last_call(alloc, commands);
+            self.broken = Some(StormCall { round, call });
         }
     }
 }

@@ -189,8 +189,11 @@ module _ (former new : Program) (shapes : HasShapesOf former new)
     by_standing Ready m recovered holds = (holds.0, rests holds.1)
     by_standing (Down None) m recovered holds = absurd (owing m recovered holds.0)
     by_standing (Down (Some owed)) m recovered holds = absurd (owing m recovered holds.0)
-    by_standing (Unusable kind) m recovered holds =
-        (holds.0, loses (trap_number kind) holds.1)
+    by_standing (Unusable kind) m recovered holds = (
+      holds.0,
+      loses (trap_number kind) holds.1,
+      all_on (moving_events new.digest) d b all ∙ holds.2,
+    )
 
 pub moved_holds : MovedLaw
 moved_holds former new super m d b s none sizes recovered holds all =

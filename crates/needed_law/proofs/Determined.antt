@@ -17,12 +17,12 @@ use Rattle.cnvm_session.specs.declared.answer.Answer.TheVariants as answer
 use Rattle.cnvm_session.specs.declared.program.Program.{Program}
 use Rattle.cnvm_session.specs.Commands.{call_number}
 use Rattle.cnvm_session.specs.Marks.{rolls_back_of, looks_of}
-use Rattle.session_law.specs.Source.{source_parameters, means, ComesBy}
+use Rattle.session_law.specs.Source.{source_parameters, means, ComesBy, pool_of_image}
 use Rattle.session_law.specs.State.{Pending, Standing, Ready, Down, Unusable, SourceState}
 use Rattle.session_law.specs.State.{standing_as, done_with, undone_as}
 use Rattle.session_law.specs.Answers.{Refused, RunsBy, Looks, RunsAs, CallsWith, CallsTo}
 use Rattle.session_law.specs.Answers.{CallsNamed, Calls, Tells}
-use Rattle.session_law.specs.Answers.{Shows, Lasts, ConcludesAs, IsConcluded, FindsOf, FindsOwed}
+use Rattle.session_law.specs.Answers.{Shows, ShowsDead, Lasts, ConcludesAs, IsConcluded, FindsOf, FindsOwed}
 use Rattle.session_law.specs.Answers.{Rests, RedoesBy, Recovers, IsMarked, Powers}
 use Rattle.session_law.proofs.Logging.{one_outcome}
 use Rattle.needed_law.specs.AnswerKind.{AnswerKind, Meant, CutOff, FaultCame, NoRoom, AtLimit}
@@ -75,6 +75,7 @@ by_kind (answer.RecoveredRedone value logged) = inl tt
 by_kind (answer.RecoveredTrap kind) = inl tt
 by_kind (answer.RecoveredAborted kind) = inl tt
 by_kind (answer.Shown text) = inl tt
+by_kind (answer.ShownDead trap text) = inl tt
 by_kind (answer.Last n value) = inl tt
 by_kind answer.NoMemory = inr refl
 by_kind answer.RefusedDown = inl tt
@@ -183,6 +184,7 @@ module _ (program : Program) (s : SourceState) (image : Words) where
     runs_split marked (answer.RecoveredTrap kind) t h = absurd h
     runs_split marked (answer.RecoveredAborted kind) t h = absurd h
     runs_split marked (answer.Shown text) t h = absurd h
+    runs_split marked (answer.ShownDead trap text) t h = absurd h
     runs_split marked (answer.Last n value) t h = absurd h
     runs_split marked answer.NoMemory t h = inr ((λ is. is), h)
     runs_split marked answer.RefusedDown t h = absurd h
@@ -221,6 +223,7 @@ module _ (program : Program) (s : SourceState) (image : Words) where
     looks_split (answer.RecoveredTrap kind) t h = absurd h
     looks_split (answer.RecoveredAborted kind) t h = absurd h
     looks_split (answer.Shown text) t h = absurd h
+    looks_split (answer.ShownDead trap text) t h = absurd h
     looks_split (answer.Last n value) t h = absurd h
     looks_split answer.NoMemory t h = inr ((λ is. is), h)
     looks_split answer.RefusedDown t h = absurd h
@@ -275,6 +278,7 @@ module _ (program : Program) (s : SourceState) (image : Words) where
   tells_split (answer.RecoveredTrap kind) t h = absurd h
   tells_split (answer.RecoveredAborted kind) t h = absurd h
   tells_split (answer.Shown text) t h = inl (tt, (ap answer.Shown h.0, h.1))
+  tells_split (answer.ShownDead trap text) t h = absurd h
   tells_split (answer.Last n value) t h = absurd h
   tells_split answer.NoMemory t h = inr ((λ is. is), h)
   tells_split answer.RefusedDown t h = absurd h
@@ -291,6 +295,30 @@ module _ (program : Program) (s : SourceState) (image : Words) where
       (tells_split a t x) (tells_split b u y) kinds
   shows_one (Down owed) = refused_one answer.RefusedDown s
   shows_one (Unusable kind) = refused_one (answer.RefusedUnusable kind) s
+
+  -- `show dead` of a pool that a trap has ended
+  abbrev IsShownDead : TrapKind → Answer → SourceState → Type 0
+  IsShownDead kind a t =
+      (a ≡ answer.ShownDead kind
+      (pool_text (shapes_of program.typed) (pool_of_image program image))) × (t ≡ s)
+
+  dead_split : (kind : TrapKind) (a : Answer) (t : SourceState)
+      → ShowsDead (Unusable kind) program s image a t
+      → Splits (IsShownDead kind) (λ k. s) a t
+  dead_split kind a t h =
+      ⊎_elim (λ shown. inl (
+        subst (λ (x : Answer). IsMeant (answer_kind x)) (sym shown) tt,
+        (shown, h.1),
+      ))
+      (λ none. inr ((λ is. subst (λ (x : Answer). IsMeant (answer_kind x)) none is), h.1)) h.0
+
+  deads_one : (st : Standing) → IsOne (ShowsDead st program s image)
+  deads_one Ready = shows_one Ready
+  deads_one (Down owed) = shows_one (Down owed)
+  deads_one (Unusable kind) = λ a b t u x y kinds.
+      split_one (IsShownDead kind) (λ k. s)
+      (λ v w f g first second. (first.0 ∙ sym second.0, first.1 ∙ sym second.1)) a b t u
+      (dead_split kind a t x) (dead_split kind b u y) kinds
 
   lasts_one : (st : Standing) → IsOne (Lasts st s)
   lasts_one Ready = refused_one (answer.Last (pos s.done) s.last) s
@@ -314,6 +342,7 @@ module _ (program : Program) (s : SourceState) (image : Words) where
   rests_split (answer.RecoveredTrap kind) t h = absurd h
   rests_split (answer.RecoveredAborted kind) t h = absurd h
   rests_split (answer.Shown text) t h = absurd h
+  rests_split (answer.ShownDead trap text) t h = absurd h
   rests_split (answer.Last n value) t h = absurd h
   rests_split answer.NoMemory t h = inr ((λ is. is), h)
   rests_split answer.RefusedDown t h = absurd h
@@ -359,6 +388,7 @@ module _ (program : Program) (owed : Pending) (s : SourceState) (image : Words) 
       inl (tt, (h.1.0, Trap kind, h.1.1, refl, h.2))
   redoes_split false (answer.RecoveredAborted kind) t h = absurd (true_not_false (sym h.0))
   redoes_split marked (answer.Shown text) t h = absurd h
+  redoes_split marked (answer.ShownDead trap text) t h = absurd h
   redoes_split marked (answer.Last n value) t h = absurd h
   redoes_split marked answer.NoMemory t h = inr ((λ is. is), h)
   redoes_split marked answer.RefusedDown t h = absurd h
@@ -477,6 +507,7 @@ module _ (program : Program) (s : SourceState) (image : Words) where
   powers_split (answer.RecoveredTrap kind) t h = inr (inr ((λ is. is), h.0, h.1))
   powers_split (answer.RecoveredAborted kind) t h = inr (inr ((λ is. is), h.0, h.1))
   powers_split (answer.Shown text) t h = inr (inr ((λ is. is), h.0, h.1))
+  powers_split (answer.ShownDead trap text) t h = inr (inr ((λ is. is), h.0, h.1))
   powers_split (answer.Last n value) t h = inr (inr ((λ is. is), h.0, h.1))
   powers_split answer.NoMemory t h = inr (inr ((λ is. is), h.0, h.1))
   powers_split answer.RefusedDown t h = inr (inr ((λ is. is), h.0, h.1))
@@ -528,4 +559,5 @@ one_answer program s image (command.Power choice) a b t u = λ x y kinds.
     split_power program s image a b t u (powers_split program s image a t x)
     (powers_split program s image b u y) kinds
 one_answer program s image command.Show a b t u = shows_one program s image s.standing a b t u
+one_answer program s image command.ShowDead a b t u = deads_one program s image s.standing a b t u
 one_answer program s image command.Last a b t u = lasts_one program s image s.standing a b t u

@@ -109,6 +109,7 @@ answered_done program s image (command.Power choice) a =
 answered_done program s image (command.Stop left) a = refl
 answered_done program s image (command.Fault at) a = refl
 answered_done program s image command.Show a = refl
+answered_done program s image command.ShowDead a = refl
 answered_done program s image command.Last a = refl
 
 pub chain_grows : HistoryLaw

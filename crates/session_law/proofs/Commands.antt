@@ -1,10 +1,11 @@
 -- Each command is answered as the source says.
 use Rattle.std.proofs.Common.{◌≡◌, ℕ, Bool, true, false, ◌==◌, List, length, Option, Some, None, ℤ}
-use Rattle.std.proofs.Common.{pos, refl, sym, ap, ◌∙◌, subst}
+use Rattle.std.proofs.Common.{pos, inl, inr, refl, sym, ap, ◌∙◌, subst, ⊎_elim}
 use Rattle.std.proofs.lemmas.Bool.{eqb-true}
 use Rattle.cache_model.specs.Cache.{Words, Cache, view}
 use Rattle.cache_model.specs.Image.{Images}
 use Rattle.pmem.specs.Device.{Device, with_left, with_armed}
+use Rattle.pool_map.specs.declared.trap.TrapKind.{TrapKind}
 use Rattle.pool_map.specs.Trap.{trap_number}
 use Rattle.pool_map.specs.PoolText.{pool_text}
 use Rattle.c_types.specs.Shapes.{shapes_of}
@@ -36,13 +37,15 @@ use Rattle.session_law.specs.Agrees.{Agrees}
 use Rattle.session_law.specs.State.{Pending, Standing, Ready, Down, Unusable, SourceState}
 use Rattle.session_law.specs.State.{standing_as}
 use Rattle.session_law.specs.Answers.{Refused, RunsBy, Looks, RunsAs, CallsWith, CallsTo}
-use Rattle.session_law.specs.Answers.{CallsNamed, Calls, Tells, Shows, Lasts}
+use Rattle.session_law.specs.Answers.{CallsNamed, Calls, Tells, Shows, TellsDead}
+use Rattle.session_law.specs.Answers.{ShowsDead, Lasts}
 use Rattle.session_law.specs.Holds.{HoldsPool, IsResting, OwesBy, HoldsAs, Holds}
 use Rattle.session_law.specs.Law.{SessionLaw}
 use Rattle.session_law.proofs.Heaps.{pool_same, shown_same, pool_fits}
 use Rattle.session_law.proofs.Resting.{resting_down}
 use Rattle.session_law.proofs.Calls.{call_runs}
 use Rattle.session_law.proofs.Looking.{look_runs}
+use Rattle.session_law.proofs.Dead.{told_dead, shows_ready, shows_down}
 use Rattle.session_law.proofs.Powers.{power_answers}
 
 module _ (program : Program) (super : Words) where
@@ -97,6 +100,7 @@ module _ (program : Program) (super : Words) where
     holds.0,
     subst (Images (Lost program.image.parts.sizes (trap_number kind)))
         (sym cache) holds.1,
+    on ∙ holds.2,
   )
 
   moved : (m n : Mode) (d b : Device) (s : SourceState) → n ≡ m → b ≡ d → Holds program super m d s
@@ -229,6 +233,7 @@ module _ (program : Program) (super : Words) where
     tells_as : (a : Answer) → commanded.Tells (shapes_of program.typed) (sizes_of program) d a n
         → (t : SourceState) × Tells program s a t × Holds program super n d t
     tells_as (answer.Shown text) h = (s, (text_as text h, refl), ready_as h.1)
+    tells_as (answer.ShownDead trap text) h = absurd h
     tells_as answer.NoMemory h =
         (standing_as (Down None) s, refl, (h, resting_down program super d s resting))
     tells_as answer.Silent h = absurd h
@@ -272,6 +277,36 @@ module _ (program : Program) (super : Words) where
       (subst (λ (x : Mode). commanded.Shows (shapes_of program.typed) (sizes_of program) x d a n b k
       k1) here.0 h)
 
+  -- the answer of `show dead`
+  dead_told : (agrees : Agrees program) (d : Device) (kind : TrapKind) (a : Answer) → d.on ≡ true
+      → commanded.TellsDead (shapes_of program.typed) (sizes_of program) kind d a
+      → TellsDead program (view d.cache) kind a
+  dead_told agrees d kind a on h =
+      ⊎_elim (λ shown. inl (shown.1 ∙ ap (answer.ShownDead kind) (shown.2 on
+      (pool_fits program (heap_of (sizes_of program) (view d.cache)) agrees.root))))
+      (λ none. inr none)
+      (told_dead (shapes_of program.typed) (sizes_of program) kind d a h)
+
+  dead_as :
+      (agrees : Agrees program) (m n : Mode) (d b : Device)
+      (s : SourceState) (a : Answer) (k k1 : ℕ) (st : Standing) →
+      s.standing ≡ st → HoldsAs st program super m d s → Holds program super m d s
+      → commanded.ShowsDead (shapes_of program.typed) (sizes_of program) m d a n b k k1 →
+      (t : SourceState) × ShowsDead st program s (view d.cache) a t × Holds program super n b t
+  dead_as agrees m n d b s a k k1 Ready standing here holds h =
+      shows_as agrees m n d b s a k k1 Ready standing here holds
+      (shows_ready program m d a n b k k1 here.0 h)
+  dead_as agrees m n d b s a k k1 (Down owed) standing here holds h =
+      shows_as agrees m n d b s a k k1 (Down owed) standing here holds
+      (shows_down program m d a n b k k1 (down_mode owed m d s here) h)
+  dead_as agrees m n d b s a k k1 (Unusable kind) standing here holds h =
+      let at = subst (λ (x : Mode). commanded.ShowsDead (shapes_of program.typed)
+      (sizes_of program) x d a n b k k1) here.0 h in (
+        s,
+        (dead_told agrees d kind a here.2 at.0, refl),
+        moved m n d b s (at.1 ∙ sym here.0) at.2 holds,
+      )
+
   -- the answer of `last`
   lasts_as : (m n : Mode) (d b : Device) (s : SourceState) (a : Answer) (k k1 : ℕ) (st : Standing) →
       s.standing ≡ st → HoldsAs st program super m d s → Holds program super m d s
@@ -312,5 +347,7 @@ each_command program super (command.Power choice) m n d b s a k k1 agrees words 
     power_answers program super agrees choice m n d b s a k k1 holds h
 each_command program super command.Show m n d b s a k k1 agrees words holds h =
     shows_as program super agrees m n d b s a k k1 s.standing refl holds holds h
+each_command program super command.ShowDead m n d b s a k k1 agrees words holds h =
+    dead_as program super agrees m n d b s a k k1 s.standing refl holds holds h
 each_command program super command.Last m n d b s a k k1 agrees words holds h =
     lasts_as program super m n d b s a k k1 s.standing refl holds holds h

@@ -1,7 +1,7 @@
 -- No event is refused where no stop is set and no fault is armed; so each command comes to its end.
 use Rattle.std.proofs.Common.{◌≡◌, ◌≢◌, inl, inr, ℕ, Bool, true, false, List, [], ◌∷◌, Option, None}
 use Rattle.std.proofs.Common.{Some, length, ◌==◌, ℤ, pos, refl, sym, ap, ◌∙◌, subst}
-use Rattle.std.proofs.Common.{int_eq, ◌&&◌, if◌then◌else◌}
+use Rattle.std.proofs.Common.{int_eq, ◌&&◌, if◌then◌else◌, ⊎_elim}
 use Rattle.std.proofs.lemmas.Bool.Decides.{Decides-int_eq}
 use Rattle.cache_model.specs.Cache.{Words, view}
 use Rattle.cache_model.specs.Collapse.{bad}
@@ -47,6 +47,7 @@ use Rattle.session_law.specs.Holds.{HoldsAs}
 use Rattle.session_law.specs.Ends.{IsSafe, IsInterrupted, ArmsNothing, UninterruptedLaw}
 use Rattle.session_law.specs.Ends.{IsRecoveryEnd, RecoveryEndsLaw}
 use Rattle.session_law.proofs.Looking.{look_is_on}
+use Rattle.session_law.proofs.Dead.{told_dead}
 
 -- the device takes each event: it is on, and nothing is armed
 abbrev TakesAll : Device → Type 0
@@ -348,6 +349,7 @@ module _ (program : Program) (a : Answer) (n : Mode) (b : Device) (k k1 : ℕ) w
         tells_end (answer.RecoveredTrap kind) tells broken = broken
         tells_end (answer.RecoveredAborted kind) tells broken = broken
         tells_end (answer.Shown text) tells broken = broken
+        tells_end (answer.ShownDead trap text) tells broken = broken
         tells_end (answer.Last done value) tells broken = broken
         tells_end answer.NoMemory tells broken = broken
         tells_end answer.RefusedDown tells broken = broken
@@ -359,6 +361,18 @@ module _ (program : Program) (a : Answer) (n : Mode) (b : Device) (k k1 : ℕ) w
     show_well mode.Down h = refused_well answer.RefusedDown mode.Down d safe no h
     show_well (mode.Unusable kind) h =
         refused_well (answer.RefusedUnusable kind) (mode.Unusable kind) d safe no h
+
+    dead_well : (m : Mode)
+        → commanded.ShowsDead (shapes_of program.typed) program.image.parts.sizes m d a n b k k1
+        → EndsWell a b
+    dead_well mode.Ready h = show_well mode.Ready h
+    dead_well mode.Down h = show_well mode.Down h
+    dead_well (mode.Unusable kind) h = (
+      λ broken. ⊎_elim (λ shown. subst IsInterrupted shown.1 broken)
+          (λ none. subst IsInterrupted none broken)
+          (told_dead (shapes_of program.typed) program.image.parts.sizes kind d a h.0),
+      subst IsSafe (sym h.2) safe,
+    )
 
     last_well : (m : Mode) → (m ≡ mode.Ready → d.on ≡ true)
         → commanded.Lasts m d a n b k k1 → EndsWell a b
@@ -380,6 +394,8 @@ module _ (program : Program) (a : Answer) (n : Mode) (b : Device) (k k1 : ℕ) w
         let well = (power_well choice m h).0 in (well.0, λ arms. well.1)
     command_well command.Show m on h =
         let well = show_well m h in (well.0, λ arms. well.1)
+    command_well command.ShowDead m on h =
+        let well = dead_well m h in (well.0, λ arms. well.1)
     command_well command.Last m on h =
         let well = last_well m on h in (well.0, λ arms. well.1)
 

@@ -20,8 +20,8 @@ use Rattle.session_law.specs.State.{Pending, Standing, Ready, Down, Unusable, So
 use Rattle.session_law.specs.State.{standing_as}
 use Rattle.session_law.specs.Answers.{Refused, ConcludesAs, IsConcluded, RunsBy, Looks, RunsAs}
 use Rattle.session_law.specs.Answers.{CallsWith, CallsTo}
-use Rattle.session_law.specs.Answers.{CallsNamed, Calls, Tells, Shows, Lasts, FindsOf, FindsOwed}
-use Rattle.session_law.specs.Answers.{Rests, Redoes, Recovers, Powers, Answers}
+use Rattle.session_law.specs.Answers.{CallsNamed, Calls, Tells, Shows, ShowsDead, Lasts}
+use Rattle.session_law.specs.Answers.{FindsOf, FindsOwed, Rests, Redoes, Recovers, Powers, Answers}
 use Rattle.session_law.specs.History.{LeavesPool, LeadsTo, waiting_of, call_to, counted, call_in}
 use Rattle.session_law.specs.History.{called_by, is_retired, recovered_by, done_by, IsPart}
 use Rattle.session_law.specs.History.{HasDone}
@@ -164,6 +164,7 @@ module _ (program : Program) where
   none_counts (answer.RecoveredTrap kind) = refl
   none_counts (answer.RecoveredAborted kind) = refl
   none_counts (answer.Shown text) = refl
+  none_counts (answer.ShownDead trap text) = refl
   none_counts (answer.Last n value) = refl
   none_counts answer.RefusedDown = refl
   none_counts (answer.RefusedUnusable kind) = refl
@@ -220,6 +221,7 @@ module _ (program : Program) where
     runs_done tx (answer.RecoveredTrap kind) is = absurd is
     runs_done tx (answer.RecoveredAborted kind) is = absurd is
     runs_done tx (answer.Shown text) is = absurd is
+    runs_done tx (answer.ShownDead trap text) is = absurd is
     runs_done tx (answer.Last n value) is = absurd is
     runs_done tx answer.RefusedDown is = absurd is
     runs_done tx (answer.RefusedUnusable kind) is = absurd is
@@ -397,6 +399,7 @@ module _ (program : Program) where
   rests_done s t image (answer.RecoveredTrap kind) is = absurd is
   rests_done s t image (answer.RecoveredAborted kind) is = absurd is
   rests_done s t image (answer.Shown text) is = absurd is
+  rests_done s t image (answer.ShownDead trap text) is = absurd is
   rests_done s t image (answer.Last n value) is = absurd is
   rests_done s t image answer.RefusedDown is = absurd is
   rests_done s t image (answer.RefusedUnusable kind) is = absurd is
@@ -425,6 +428,7 @@ module _ (program : Program) where
   redoes_done owed s t image (answer.Aborted kind) at is = absurd is
   redoes_done owed s t image answer.RecoveredNone at is = absurd is
   redoes_done owed s t image (answer.Shown text) at is = absurd is
+  redoes_done owed s t image (answer.ShownDead trap text) at is = absurd is
   redoes_done owed s t image (answer.Last n value) at is = absurd is
   redoes_done owed s t image answer.RefusedDown at is = absurd is
   redoes_done owed s t image (answer.RefusedUnusable kind) at is = absurd is
@@ -520,6 +524,7 @@ module _ (program : Program) where
     powers_done answer.RecoveredNone is = back_with answer.RecoveredNone is none
     powers_done (answer.RecoveredTrap kind) is = back_with (answer.RecoveredTrap kind) is none
     powers_done (answer.Shown text) is = back_with (answer.Shown text) is none
+    powers_done (answer.ShownDead trap text) is = back_with (answer.ShownDead trap text) is none
     powers_done (answer.Last n value) is = back_with (answer.Last n value) is none
     powers_done answer.NoMemory is = back_with answer.NoMemory is none
     powers_done answer.RefusedDown is = back_with answer.RefusedDown is none
@@ -531,6 +536,7 @@ module _ (program : Program) where
 
   tells_done : (s t : SourceState) (a : Answer) → Tells program s a t → HasDone program s t [] []
   tells_done s t (answer.Shown text) is = same_done s t [] is.1
+  tells_done s t (answer.ShownDead trap text) is = absurd is
   tells_done s t answer.NoMemory is =
       only_standing s t (Down None) [] is (part_none (waiting_of s.standing ++ []))
   tells_done s t answer.Silent is = absurd is
@@ -557,6 +563,12 @@ module _ (program : Program) where
   shows_done s t a (Down owed) is = same_done s t [] is.1
   shows_done s t a (Unusable kind) is = same_done s t [] is.1
 
+  dead_done : (s t : SourceState) (image : Words) (a : Answer) (st : Standing)
+      → ShowsDead st program s image a t → HasDone program s t [] []
+  dead_done s t image a Ready is = shows_done s t a Ready is
+  dead_done s t image a (Down owed) is = shows_done s t a (Down owed) is
+  dead_done s t image a (Unusable kind) is = same_done s t [] is.1
+
   lasts_done : (s t : SourceState) (a : Answer) (st : Standing) → Lasts st s a t →
       HasDone program s t [] []
   lasts_done s t a Ready is = same_done s t [] is.1
@@ -573,4 +585,5 @@ module _ (program : Program) where
   answer_done s t image (command.Fault at) a is = same_done s t [] is.1
   answer_done s t image (command.Power choice) a is = powers_done s t image a is
   answer_done s t image command.Show a is = shows_done s t a s.standing is
+  answer_done s t image command.ShowDead a is = dead_done s t image a s.standing is
   answer_done s t image command.Last a is = lasts_done s t a s.standing is

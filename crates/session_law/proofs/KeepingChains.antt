@@ -38,7 +38,8 @@ use Rattle.session_law.specs.Agrees.{Agrees}
 use Rattle.session_law.specs.State.{Pending, Standing, Ready, Down, Unusable, SourceState}
 use Rattle.session_law.specs.State.{standing_as, undone_as}
 use Rattle.session_law.specs.Answers.{RunsBy, RunsAs, CallsWith, CallsTo}
-use Rattle.session_law.specs.Answers.{CallsNamed, Calls, Tells, Shows, Lasts, Powers, Answers}
+use Rattle.session_law.specs.Answers.{CallsNamed, Calls, Tells, Shows, ShowsDead, Lasts}
+use Rattle.session_law.specs.Answers.{Powers, Answers}
 use Rattle.session_law.specs.Holds.{IsResting, HoldsAs, Holds}
 use Rattle.session_law.specs.History.{done_by}
 use Rattle.session_law.specs.Ran.{found_by, Moment, SessionStep, Ran}
@@ -49,6 +50,7 @@ use Rattle.session_law.proofs.Reading.{numbers_small, stands_ready, stands_numbe
 use Rattle.session_law.proofs.Restoring.{Restores, KeepsIn}
 use Rattle.session_law.proofs.Calls.{call_keeps, call_restores}
 use Rattle.session_law.proofs.Looking.{looked_state}
+use Rattle.session_law.proofs.Dead.{shows_ready, shows_down}
 use Rattle.session_law.proofs.Powers.{left_images, left_held}
 use Rattle.session_law.proofs.Histories.{answer_done}
 use Rattle.session_law.proofs.Chains.{chain_kept}
@@ -254,6 +256,7 @@ module _ (program : Program) (super : Words) (agrees : Agrees program) (h : Word
 
     told_same : (x : Answer) → Tells program s x t → (t ≡ s) ⊎ (t ≡ standing_as (Down None) s)
     told_same (answer.Shown text) is = inl is.1
+    told_same (answer.ShownDead trap text) is = absurd is
     told_same answer.NoMemory is = inr is
     told_same answer.Silent is = absurd is
     told_same (answer.Done v l) is = absurd is
@@ -291,6 +294,19 @@ module _ (program : Program) (super : Words) (agrees : Agrees program) (h : Word
     show_as (Unusable kind) standing holds here did shows =
         stay shows.1 (subst (λ (x : Mode).
         commanded.Shows (shapes_of program.typed) (sizes_of program) x d a n b k k1) holds.0
+        did).2
+
+    dead_as : (st : Standing) → s.standing ≡ st → HoldsAs st program super m d s → Holding st d s
+        → commanded.ShowsDead (shapes_of program.typed) (sizes_of program) m d a n b k k1
+        → ShowsDead st program s (view d.cache) a t → Kept s b t
+    dead_as Ready standing holds here did shows =
+        show_as Ready standing holds here (shows_ready program m d a n b k k1 holds.0 did) shows
+    dead_as (Down owed) standing holds here did shows =
+        show_as (Down owed) standing holds here
+        (shows_down program m d a n b k k1 (down_is owed holds) did) shows
+    dead_as (Unusable kind) standing holds here did shows =
+        stay shows.1 (subst (λ (x : Mode).
+        commanded.ShowsDead (shapes_of program.typed) (sizes_of program) x d a n b k k1) holds.0
         did).2
 
     last_as : (st : Standing) → HoldsAs st program super m d s
@@ -348,6 +364,8 @@ module _ (program : Program) (super : Words) (agrees : Agrees program) (h : Word
         by_picks choice (fallen 0 choice.picks) (bad (memory_of d) choice.picks) refl refl did meant
     command_keeps command.Show words did meant =
         show_as s.standing refl before keeps did meant
+    command_keeps command.ShowDead words did meant =
+        dead_as s.standing refl before keeps did meant
     command_keeps command.Last words did meant = last_as s.standing before did meant
 
   -- a step of a chain

@@ -13,6 +13,7 @@ pub mod Restoring
 pub mod Exact
 pub mod Resting
 pub mod Looking
+pub mod Dead
 pub mod Calls
 pub mod Recoveries
 pub mod Powers

@@ -60,6 +60,7 @@ looked_state program s t tx args (answer.RecoveredRedone v l) is = absurd is
 looked_state program s t tx args (answer.RecoveredTrap kind) is = absurd is
 looked_state program s t tx args (answer.RecoveredAborted kind) is = absurd is
 looked_state program s t tx args (answer.Shown text) is = absurd is
+looked_state program s t tx args (answer.ShownDead trap text) is = absurd is
 looked_state program s t tx args (answer.Last n v) is = absurd is
 looked_state program s t tx args answer.RefusedDown is = absurd is
 looked_state program s t tx args (answer.RefusedUnusable kind) is = absurd is

@@ -89,6 +89,7 @@ powers_of program s found t image (answer.RecoveredTrap kind) mark finds is =
 powers_of program s found t image (answer.RecoveredAborted kind) mark finds is =
     (mark, (found, finds, is))
 powers_of program s found t image (answer.Shown text) mark finds is = (mark, (found, finds, is))
+powers_of program s found t image (answer.ShownDead trap text) mark finds is = (mark, (found, finds, is))
 powers_of program s found t image (answer.Last f v) mark finds is = (mark, (found, finds, is))
 powers_of program s found t image answer.NoMemory mark finds is = (mark, (found, finds, is))
 powers_of program s found t image answer.RefusedDown mark finds is = (mark, (found, finds, is))
@@ -173,6 +174,7 @@ module _ (program : Program) (super : Words) (agrees : Agrees program)
         refl,
         subst (λ (x : Device). Images (Lost pool.sizes (trap_number kind)) x.cache)
             (sym found.2) (rest_images (Lost pool.sizes (trap_number kind)) e.cache rest lost),
+        ap (λ (x : Device). x.on) found.2 ∙ on,
       ) in (
         standing_as (Unusable kind) s,
         subst (λ (x : Answer). Powers program s one x (standing_as (Unusable kind) s))

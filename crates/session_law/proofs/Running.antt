@@ -152,6 +152,7 @@ module _ (program : Program) (owed : Pending) (s t : SourceState) (image : Words
   told_of answer.DeviceFault completed answers e = absurd completed
   told_of (answer.RecoveredTrap k) completed answers e = absurd completed
   told_of (answer.Shown text) completed answers e = absurd completed
+  told_of (answer.ShownDead trap text) completed answers e = absurd completed
   told_of (answer.Last n v) completed answers e = absurd completed
   told_of answer.NoMemory completed answers e = absurd completed
   told_of answer.RefusedDown completed answers e = absurd completed

@@ -12,15 +12,15 @@ use Rattle.cache_model.specs.declared.choice.Rest.{Rest}
 use Rattle.cache_model.specs.declared.choice.Rest.TheVariants.{Old, New}
 use Rattle.cache_model.specs.declared.choice.Pick.{Pick}
 use Rattle.cnvm_script.specs.declared.command.Command.{Command}
-use Rattle.cnvm_script.specs.declared.command.Command.TheVariants.{Call, Stop, Fault, Power, Show}
+use Rattle.cnvm_script.specs.declared.command.Command.TheVariants.{Call, Stop, Fault, Power, ShowDead}
 use Rattle.cnvm_script.specs.declared.command.Command.TheVariants.{Last}
 use Rattle.cnvm_script.specs.Lines.{lines}
 use Rattle.cnvm_script.specs.Lines as line_of
 use Rattle.cnvm_script.specs.Name.{is_name}
 use Rattle.cnvm_script.specs.Number.{bounded_numeral, as_positive, as_negative, argument, pick}
 use Rattle.cnvm_script.specs.Commands.{with_first, each, rising, call_command, event_of, choice_of}
-use Rattle.cnvm_script.specs.Commands.{power_of, alone, command, is_remark, meaning, line_meaning}
-use Rattle.cnvm_script.specs.Commands.{joined_commands, commands_from}
+use Rattle.cnvm_script.specs.Commands.{power_of, if_dead, show_of, alone, command, is_remark}
+use Rattle.cnvm_script.specs.Commands.{meaning, line_meaning, joined_commands, commands_from}
 use Rattle.session_law.specs.Words.{AreWords}
 use Rattle.session_law.specs.Law.{IsWordCommand, ScriptLaw}
 
@@ -117,6 +117,15 @@ power_words (word ∷ picks) =
     (either IsWordCommand (bytes_eq word (codes "new")) (choice_of New picks) None
     (choice_words New picks) tt)
 
+dead_words : (word : List ℕ) → IfSome (if_dead word) IsWordCommand
+dead_words word =
+    either IsWordCommand (bytes_eq word (codes "dead")) (Some ShowDead) None tt tt
+
+show_words : (words : List (List ℕ)) → IfSome (show_of words) IsWordCommand
+show_words [] = tt
+show_words (word ∷ []) = dead_words word
+show_words (word ∷ other ∷ others) = tt
+
 command_words : (word : List ℕ) (others : List (List ℕ))
     → IfSome (command word others) IsWordCommand
 command_words word others =
@@ -126,8 +135,8 @@ command_words word others =
     (either IsWordCommand (bytes_eq word (codes "fault")) (option_map Fault (event_of others)) _
     (other_words Fault (event_of others) (λ n. tt))
     (either IsWordCommand (bytes_eq word (codes "power")) (power_of others) _ (power_words others)
-    (either IsWordCommand (bytes_eq word (codes "show")) (alone Show others) _
-    (alone_words Show others tt)
+    (either IsWordCommand (bytes_eq word (codes "show")) (show_of others) _
+    (show_words others)
     (either IsWordCommand (bytes_eq word (codes "last")) (alone Last others) None
     (alone_words Last others tt) tt)))))
 

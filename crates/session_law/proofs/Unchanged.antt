@@ -14,7 +14,7 @@ use Rattle.cnvm_session.proofs.Refusing.{command_kept}
 use Rattle.session_law.specs.Source.{source_parameters}
 use Rattle.session_law.specs.State.{Pending, Standing, Ready, Down, Unusable, SourceState}
 use Rattle.session_law.specs.Answers.{RunsBy, RunsAs, CallsWith, CallsTo, CallsNamed, Calls}
-use Rattle.session_law.specs.Answers.{Tells, Shows, Lasts, Powers, Answers}
+use Rattle.session_law.specs.Answers.{Tells, Shows, ShowsDead, Lasts, Powers, Answers}
 use Rattle.session_law.specs.History.{call_to, counted, called_by, recovered_by, done_by}
 use Rattle.session_law.specs.Ran.{found_by}
 use Rattle.session_law.specs.Law.{UnchangedLaw}
@@ -32,6 +32,7 @@ none_called call (answer.RecoveredRedone value logged) is = absurd is
 none_called call (answer.RecoveredTrap kind) is = absurd is
 none_called call (answer.RecoveredAborted kind) is = absurd is
 none_called call (answer.Shown text) is = absurd is
+none_called call (answer.ShownDead trap text) is = absurd is
 none_called call (answer.Last n value) is = absurd is
 none_called call answer.NoMemory is = absurd is
 none_called call answer.RefusedDown is = refl
@@ -55,6 +56,7 @@ module _ (program : Program) (s t : SourceState) (image : Words) where
   by_same tx args marked (answer.RecoveredTrap kind) refused is = absurd refused
   by_same tx args marked (answer.RecoveredAborted kind) refused is = absurd refused
   by_same tx args marked (answer.Shown text) refused is = absurd refused
+  by_same tx args marked (answer.ShownDead trap text) refused is = absurd refused
   by_same tx args marked (answer.Last n value) refused is = absurd refused
   by_same tx args marked answer.NoMemory refused is = absurd refused
   by_same tx args marked answer.RefusedDown refused is = absurd is
@@ -106,6 +108,7 @@ module _ (program : Program) (s t : SourceState) (image : Words) where
   tells_same (answer.RecoveredTrap kind) refused is = absurd refused
   tells_same (answer.RecoveredAborted kind) refused is = absurd refused
   tells_same (answer.Shown text) refused is = absurd refused
+  tells_same (answer.ShownDead trap text) refused is = absurd refused
   tells_same (answer.Last n value) refused is = absurd refused
   tells_same answer.NoMemory refused is = absurd refused
   tells_same answer.RefusedDown refused is = absurd is
@@ -119,6 +122,12 @@ module _ (program : Program) (s t : SourceState) (image : Words) where
   shows_same Ready a refused is = tells_same a refused is
   shows_same (Down owed) a refused is = is.1
   shows_same (Unusable kind) a refused is = is.1
+
+  deads_same : (st : Standing) (a : Answer) → IsRefusal a → ShowsDead st program s image a t
+      → t ≡ s
+  deads_same Ready a refused is = shows_same Ready a refused is
+  deads_same (Down owed) a refused is = shows_same (Down owed) a refused is
+  deads_same (Unusable kind) a refused is = is.1
 
   lasts_same : (st : Standing) (a : Answer) → Lasts st s a t → t ≡ s
   lasts_same Ready a is = is.1
@@ -138,6 +147,7 @@ module _ (program : Program) (s t : SourceState) (image : Words) where
   picks_same (answer.RecoveredTrap kind) refused is = absurd refused
   picks_same (answer.RecoveredAborted kind) refused is = absurd refused
   picks_same (answer.Shown text) refused is = absurd refused
+  picks_same (answer.ShownDead trap text) refused is = absurd refused
   picks_same (answer.Last n value) refused is = absurd refused
   picks_same answer.NoMemory refused is = absurd refused
   picks_same answer.RefusedDown refused is = absurd refused
@@ -157,6 +167,7 @@ module _ (program : Program) (s t : SourceState) (image : Words) where
   answers_same (command.Fault at) a refused is = (is.1, refl)
   answers_same (command.Power choice) a refused is = picks_same a refused is
   answers_same command.Show a refused is = (shows_same s.standing a refused is, refl)
+  answers_same command.ShowDead a refused is = (deads_same s.standing a refused is, refl)
   answers_same command.Last a refused is = (lasts_same s.standing a is, refl)
 
 pub step_unchanged : UnchangedLaw

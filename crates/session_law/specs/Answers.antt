@@ -1,7 +1,7 @@
 -- What a command answers in a session by the source alone, and what the source knows after it. Of
 -- the device it looks only at the image that the command finds: for `power` what the cut left, for
 -- any other command the view. Of the image it reads the number of transactions done, the attempt,
--- the mark and the seal.
+-- the mark and the seal; and for `show dead` of a pool that a trap has ended, the heap.
 use Rattle.std.specs.Prelude.{ℕ, suc, ◌≡◌, ◌≢◌, ◌⊎◌, ◌==◌, ◌&&◌, Bool, true, false, List, length}
 use Rattle.std.specs.Prelude.{Option, Some, None, ℤ, pos}
 use Rattle.cache_model.specs.Cache.{Words}
@@ -24,7 +24,7 @@ use Rattle.cnvm_session.specs.declared.program.Program.{Program}
 use Rattle.cnvm_session.specs.Commands.{call_number}
 use Rattle.cnvm_session.specs.Marks.{rolls_back_of, looks_of}
 use Rattle.cnvm_session.specs.Pool.{sizes_of}
-use Rattle.session_law.specs.Source.{source_parameters, means, ComesBy}
+use Rattle.session_law.specs.Source.{source_parameters, means, ComesBy, pool_of_image}
 use Rattle.session_law.specs.State.{Pending, Standing, Ready, Down, Unusable, SourceState}
 use Rattle.session_law.specs.State.{standing_as, done_with, undone_as}
 
@@ -127,6 +127,20 @@ abbrev pub Shows : Standing → Program → SourceState → Answer → SourceSta
 Shows Ready program s a t = Tells program s a t
 Shows (Down owed) program s a t = Refused answer.RefusedDown s a t
 Shows (Unusable kind) program s a t = Refused (answer.RefusedUnusable kind) s a t
+
+-- The text of the pool in the image, with the trap that has ended it: the source doesn't know this
+-- pool. Or there was no memory for the text.
+abbrev pub TellsDead : Program → Words → TrapKind → Answer → Type 0
+TellsDead program image kind a =
+    (a ≡ answer.ShownDead kind
+    (pool_text (shapes_of program.typed) (pool_of_image program image)))
+    ⊎ (a ≡ answer.NoMemory)
+
+-- only where a trap has ended the pool the answer isn't that of `show`; and then nothing changes
+abbrev pub ShowsDead : Standing → Program → SourceState → Words → Answer → SourceState → Type 0
+ShowsDead Ready program s image a t = Shows Ready program s a t
+ShowsDead (Down owed) program s image a t = Shows (Down owed) program s a t
+ShowsDead (Unusable kind) program s image a t = TellsDead program image kind a × (t ≡ s)
 
 abbrev pub Lasts : Standing → SourceState → Answer → SourceState → Type 0
 Lasts Ready s a t = Refused (answer.Last (pos s.done) s.last) s a t
@@ -239,4 +253,5 @@ Answers program s image (command.Stop left) a t = Refused answer.Silent s a t
 Answers program s image (command.Fault at) a t = Refused answer.Silent s a t
 Answers program s image (command.Power choice) a t = Powers program s image a t
 Answers program s image command.Show a t = Shows s.standing program s a t
+Answers program s image command.ShowDead a t = ShowsDead s.standing program s image a t
 Answers program s image command.Last a t = Lasts s.standing s a t

@@ -74,6 +74,7 @@ HoldsAs (Down (Some owed)) program super m d s =
     (m ≡ mode.Down) × OwesBy (rolls_back_of program owed.tx) program super owed d s
 HoldsAs (Unusable kind) program super m d s =
     (m ≡ mode.Unusable kind) × Images (Lost program.image.parts.sizes (trap_number kind)) d.cache
+    × (d.on ≡ true)
 
 abbrev pub Holds : Program → Words → Mode → Device → SourceState → Type 0
 Holds program super m d s = HoldsAs s.standing program super m d s

@@ -8,7 +8,7 @@ use Rattle.cache_model.specs.Cache.{Words}
 use Rattle.pool_layout.specs.Headers.{HasHeaders}
 use Rattle.pool_map.specs.PoolMap.{PoolMap}
 use Rattle.pool_map.specs.declared.trap.TrapKind.TheVariants.{LogFull}
-use Rattle.pm_machine.specs.HeapPool.{pool_in}
+use Rattle.pm_machine.specs.HeapPool.{heap_of, pool_in}
 use Rattle.c_tree.specs.ItemTree.{FunctionTree}
 use Rattle.c_tree.specs.Program.{tree_of}
 use Rattle.c_types.specs.Tables.{Tables, tables_of}
@@ -71,6 +71,10 @@ pub record ComesBy (marked : Bool) (program : Program) (pool : PoolMap) (tx : �
 
 abbrev pub source_pool : Program → Words → PoolMap
 source_pool program h = pool_in (shapes_of program.typed) (sizes_of program) h
+
+-- the pool that an image holds
+abbrev pub pool_of_image : Program → Words → PoolMap
+pool_of_image program image = source_pool program (heap_of (sizes_of program) image)
 
 -- each slot's header is from 0 to the number of structs
 abbrev pub HasSourceHeaders : Program → Words → Type 0

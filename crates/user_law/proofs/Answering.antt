@@ -1,6 +1,6 @@
 -- Each command has an end.
 use Rattle.std.proofs.Common.{◌≡◌, ℕ, ◌==◌, Bool, true, false, List, length, Option, Some, None}
-use Rattle.std.proofs.Common.{ℤ, pos, refl, sym, ap, ◌∙◌, subst}
+use Rattle.std.proofs.Common.{ℤ, pos, inl, refl, sym, ap, ◌∙◌, subst}
 use Rattle.std.specs.Option.{option_map_or}
 use Rattle.cache_model.specs.Cache.{Words}
 use Rattle.pool_layout.specs.declared.places.TheConstants.{MARK}
@@ -14,12 +14,13 @@ use Rattle.cnvm_session.specs.declared.answer.Answer.{Answer}
 use Rattle.cnvm_session.specs.declared.answer.Answer.TheVariants as answer
 use Rattle.session_law.specs.State.{Pending}
 use Rattle.user_law.specs.Source.{Source, number_named, arity_of, rolls_back, looks, means}
-use Rattle.user_law.specs.Source.{comes_to}
+use Rattle.user_law.specs.Source.{comes_to, pool_of_image}
 use Rattle.user_law.specs.State.{UserStanding, Ready, Idle, Owed, Unusable, UserState, stands_as}
 use Rattle.user_law.specs.Answers.{call_told, recovery_told, finished, UserRuns, UserLooks}
 use Rattle.user_law.specs.Answers.{UserRunsAs, UserCallsWith, UserCallsTo, UserCallsNamed}
 use Rattle.user_law.specs.Answers.{UserCalls}
-use Rattle.user_law.specs.Answers.{UserShows, UserLasts, found_as, RecoveryEnds, UserPowers}
+use Rattle.user_law.specs.Answers.{UserShows, UserShowsDead, UserLasts, found_as, RecoveryEnds}
+use Rattle.user_law.specs.Answers.{UserPowers}
 use Rattle.user_law.specs.History.{pool_after}
 use Rattle.user_law.specs.Played.{only_looks}
 use Rattle.user_law.specs.Determined.{CameToEnd, CanRecover, SomeEndLaw}
@@ -114,6 +115,17 @@ module _ (p : Source) (s : UserState) (image : Words) where
   some_show (Owed call seal) = (answer.RefusedDown, s, tt, (refl, refl))
   some_show (Unusable kind) = (answer.RefusedUnusable kind, s, tt, (refl, refl))
 
+  some_dead : (st : UserStanding) → HasEnd (UserShowsDead st p s image)
+  some_dead Ready = some_show Ready
+  some_dead Idle = some_show Idle
+  some_dead (Owed call seal) = some_show (Owed call seal)
+  some_dead (Unusable kind) = (
+    answer.ShownDead kind (pool_text (shapes_in p.tables) (pool_of_image p image)),
+    s,
+    tt,
+    (inl refl, refl),
+  )
+
   some_last : (st : UserStanding) → HasEnd (UserLasts st s)
   some_last Ready = (answer.Last (pos s.done) s.last, s, tt, (refl, refl))
   some_last Idle = (answer.RefusedDown, s, tt, (refl, refl))
@@ -195,4 +207,6 @@ some_end_law p s image (command.Fault at) finds typed = (answer.Silent, s, tt, (
 some_end_law p s image (command.Power choice) finds typed =
     some_power p s image finds.0 (found_as s.standing p s image).standing refl finds.1
 some_end_law p s image command.Show finds typed = some_show p s image s.standing
+some_end_law p s image command.ShowDead finds typed =
+    some_dead p s image s.standing
 some_end_law p s image command.Last finds typed = some_last p s image s.standing

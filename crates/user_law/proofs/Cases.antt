@@ -33,6 +33,7 @@ module _ (p : Source) (s t : UserState) (image : Words) where
   runs_by call (answer.RecoveredTrap kind) is = inr (inr is.1)
   runs_by call (answer.RecoveredAborted kind) is = inr (inr is.1)
   runs_by call (answer.Shown text) is = inr (inr is.1)
+  runs_by call (answer.ShownDead trap text) is = inr (inr is.1)
   runs_by call (answer.Last n value) is = inr (inr is.1)
   runs_by call answer.NoMemory is = inl (phase.Sealing, is, inl refl)
   runs_by call answer.RefusedDown is = inr (inr is.1)
@@ -62,6 +63,7 @@ module _ (p : Source) (s t : UserState) (image : Words) where
   tells_by (answer.RecoveredTrap kind) is = inl is.1
   tells_by (answer.RecoveredAborted kind) is = inl is.1
   tells_by (answer.Shown text) is = inl is.1
+  tells_by (answer.ShownDead trap text) is = inl is.1
   tells_by (answer.Last n value) is = inl is.1
   tells_by answer.NoMemory is = inr is
   tells_by answer.RefusedDown is = inl is.1
@@ -85,6 +87,7 @@ module _ (p : Source) (s t : UserState) (image : Words) where
   recovers_by (answer.RecoveredTrap kind) is = inr is
   recovers_by (answer.RecoveredAborted kind) is = inr is
   recovers_by (answer.Shown text) is = inr is
+  recovers_by (answer.ShownDead trap text) is = inr is
   recovers_by (answer.Last n value) is = inr is
   recovers_by answer.NoMemory is = inl is
   recovers_by answer.RefusedDown is = inr is
@@ -113,6 +116,7 @@ module _ (p : Source) (s t : UserState) (image : Words) where
   powers_by (answer.RecoveredTrap kind) is = inr (inr (is.0, tt, is.1))
   powers_by (answer.RecoveredAborted kind) is = inr (inr (is.0, tt, is.1))
   powers_by (answer.Shown text) is = inr (inr (is.0, tt, is.1))
+  powers_by (answer.ShownDead trap text) is = inr (inr (is.0, tt, is.1))
   powers_by (answer.Last n value) is = inr (inr (is.0, tt, is.1))
   powers_by answer.NoMemory is = inr (inr (is.0, tt, is.1))
   powers_by answer.RefusedDown is = inr (inr (is.0, tt, is.1))

@@ -1,5 +1,5 @@
 -- An answer tells the state, and a command has one end; so have chains and runs.
-use Rattle.std.proofs.Common.{◌≡◌, ◌⊎◌, inl, inr, ℕ, ◌==◌, Bool, true, false, List, [], ◌∷◌}
+use Rattle.std.proofs.Common.{◌≡◌, ◌⊎◌, inl, inr, ⊎_elim, ℕ, ◌==◌, Bool, true, false, List, [], ◌∷◌}
 use Rattle.std.proofs.Common.{length, Option, Some, None, ℤ, pos, refl, sym, ap, ◌∙◌, subst, arith}
 use Rattle.std.specs.Prelude.{suc, Result, Ok, Err, flat_map}
 use Rattle.std.specs.List.{AllByRecursion}
@@ -13,6 +13,7 @@ use Rattle.pool_layout.proofs.Records.{pos_inj}
 use Rattle.pool_map.specs.declared.trap.TrapKind.{TrapKind}
 use Rattle.pool_map.specs.declared.trap.TrapKind.TheVariants as trap
 use Rattle.pool_map.specs.Trap.{trap_number}
+use Rattle.pool_map.specs.PoolMap.{PoolMap}
 use Rattle.pool_map.specs.PoolText.{pool_text}
 use Rattle.c_types.specs.Shapes.{shapes_in}
 use Rattle.c_meaning.specs.Transaction.{Outcome, Done, Trap}
@@ -24,19 +25,21 @@ use Rattle.cnvm_session.specs.AnswerText.{answer_text}
 use Rattle.session_law.specs.State.{Pending}
 use Rattle.session_law.specs.Ran.{found_by}
 use Rattle.user_law.specs.Source.{Source, number_named, arity_of, rolls_back, looks, means}
-use Rattle.user_law.specs.Source.{comes_to}
+use Rattle.user_law.specs.Source.{comes_to, pool_of_image}
 use Rattle.user_law.specs.State.{UserStanding, Ready, Idle, Owed, Unusable, UserState, stands_as}
 use Rattle.user_law.specs.State.{state_after}
 use Rattle.user_law.specs.Answers.{call_told, call_told_by, finished, StaysWith, UserRuns}
 use Rattle.user_law.specs.Answers.{UserLooks, UserRunsAs, UserCallsWith}
 use Rattle.user_law.specs.Answers.{UserCallsTo, UserCallsNamed, UserCalls, UserTells, UserShows}
+use Rattle.user_law.specs.Answers.{UserTellsDead, UserShowsDead}
 use Rattle.user_law.specs.Answers.{UserLasts, has_next_seal, has_next_count, found_by_seal}
 use Rattle.user_law.specs.Answers.{found_as, RecoveryEnds, UserRecovers, HasTrapped, UserPowers}
 use Rattle.user_law.specs.Answers.{UserAnswers}
 use Rattle.user_law.specs.History.{grown_history}
 use Rattle.user_law.specs.Ran.{UserMoment, UserStep, UserRan}
 use Rattle.user_law.specs.Run.{source_with, first_moment}
-use Rattle.user_law.specs.Determined.{CameToEnd, CountAlike, CutsAlike, KnowsTheSame}
+use Rattle.user_law.specs.Determined.{CameToEnd, IsOfImage, CountAlike, CutsAlike}
+use Rattle.user_law.specs.Determined.{KnowsTheSame}
 use Rattle.user_law.specs.Determined.{OneStateLaw, OneEndLaw, SameAnswersLaw}
 use Rattle.user_law.specs.Determined.{SameScriptLaw, SameOutputLaw}
 
@@ -59,6 +62,7 @@ by_end P ends off fault none out pick (answer.RecoveredTrap kind) =
 by_end P ends off fault none out pick (answer.RecoveredAborted kind) =
     ends (answer.RecoveredAborted kind) tt
 by_end P ends off fault none out pick (answer.Shown text) = ends (answer.Shown text) tt
+by_end P ends off fault none out pick (answer.ShownDead trap text) = ends (answer.ShownDead trap text) tt
 by_end P ends off fault none out pick (answer.Last n value) = ends (answer.Last n value) tt
 by_end P ends off fault none out pick answer.NoMemory = none
 by_end P ends off fault none out pick answer.RefusedDown = ends answer.RefusedDown tt
@@ -88,6 +92,7 @@ module _ (p : Source) (s : UserState) (image : Words) (t : UserState) where
   run_end call (answer.RecoveredTrap kind) ends is = is
   run_end call (answer.RecoveredAborted kind) ends is = is
   run_end call (answer.Shown text) ends is = is
+  run_end call (answer.ShownDead trap text) ends is = is
   run_end call (answer.Last n value) ends is = is
   run_end call answer.NoMemory ends is = absurd ends
   run_end call answer.RefusedDown ends is = is
@@ -124,6 +129,7 @@ module _ (p : Source) (s : UserState) (image : Words) (t : UserState) where
   tell_end (answer.RecoveredTrap kind) ends is = is
   tell_end (answer.RecoveredAborted kind) ends is = is
   tell_end (answer.Shown text) ends is = is
+  tell_end (answer.ShownDead trap text) ends is = is
   tell_end (answer.Last n value) ends is = is
   tell_end answer.NoMemory ends is = absurd ends
   tell_end answer.RefusedDown ends is = is
@@ -146,6 +152,7 @@ module _ (p : Source) (s : UserState) (image : Words) (t : UserState) where
   recovery_end (answer.RecoveredTrap kind) ends is = is
   recovery_end (answer.RecoveredAborted kind) ends is = is
   recovery_end (answer.Shown text) ends is = is
+  recovery_end (answer.ShownDead trap text) ends is = is
   recovery_end (answer.Last n value) ends is = is
   recovery_end answer.NoMemory ends is = absurd ends
   recovery_end answer.RefusedDown ends is = is
@@ -190,6 +197,7 @@ module _ (p : Source) (s : UserState) (image : Words) (t : UserState) where
   power_end (answer.RecoveredAborted kind) ends is =
       recovered (answer.RecoveredAborted kind) ends is
   power_end (answer.Shown text) ends is = recovered (answer.Shown text) ends is
+  power_end (answer.ShownDead trap text) ends is = recovered (answer.ShownDead trap text) ends is
   power_end (answer.Last n value) ends is = recovered (answer.Last n value) ends is
   power_end answer.NoMemory ends is = absurd ends
   power_end answer.RefusedDown ends is = recovered answer.RefusedDown ends is
@@ -264,6 +272,7 @@ module _ (p : Source) (s : UserState) (image other : Words) (t u : UserState)
   power_state (answer.RecoveredAborted kind) is so =
       same_found (answer.RecoveredAborted kind) is so
   power_state (answer.Shown text) is so = same_found (answer.Shown text) is so
+  power_state (answer.ShownDead trap text) is so = same_found (answer.ShownDead trap text) is so
   power_state (answer.Last n value) is so = same_found (answer.Last n value) is so
   power_state answer.NoMemory is so = same_found answer.NoMemory is so
   power_state answer.RefusedDown is so = same_found answer.RefusedDown is so
@@ -456,6 +465,50 @@ module _ (p : Source) (s : UserState) (image other : Words) where
   shows_fix (Owed call seal) = stays_fix answer.RefusedDown s
   shows_fix (Unusable kind) = stays_fix (answer.RefusedUnusable kind) s
 
+  deads_state : (st : UserStanding) (a : Answer) (t u : UserState)
+      → UserShowsDead st p s image a t → UserShowsDead st p s other a u → t ≡ u
+  deads_state Ready = (shows_fix Ready).0
+  deads_state Idle = (shows_fix Idle).0
+  deads_state (Owed call seal) = (shows_fix (Owed call seal)).0
+  deads_state (Unusable kind) = λ a t u is so. is.1 ∙ sym so.1
+
+  -- if the text is the image's, both images hold the same pool
+  abbrev HoldAlike : Answer → Type 0
+  HoldAlike a = IsOfImage a → pool_of_image p image ≡ pool_of_image p other
+
+  abbrev dead_text : Words → List ℕ
+  dead_text words = pool_text (shapes_in p.tables) (pool_of_image p words)
+
+  dead_end : (words : Words) (kind : TrapKind) (a : Answer) → CameToEnd a
+      → UserTellsDead p words kind a → a ≡ answer.ShownDead kind (dead_text words)
+  dead_end words kind a ends is =
+      ⊎_elim (λ shown. shown) (λ none. absurd (subst CameToEnd none ends)) is
+
+  dead_told : (kind : TrapKind) (a b : Answer) → HoldAlike a
+      → a ≡ answer.ShownDead kind (dead_text image)
+      → b ≡ answer.ShownDead kind (dead_text other) → a ≡ b
+  dead_told kind a b alike is so =
+      is ∙ ap (λ (pool : PoolMap). answer.ShownDead kind (pool_text (shapes_in p.tables) pool))
+      (alike (subst IsOfImage (sym is) tt)) ∙ sym so
+
+  deads_end : (st : UserStanding) (a b : Answer) (t u : UserState) → HoldAlike a → CameToEnd a
+      → CameToEnd b → UserShowsDead st p s image a t → UserShowsDead st p s other b u
+      → (a ≡ b) × (t ≡ u)
+  deads_end Ready a b t u alike = (shows_fix Ready).1 a b t u
+  deads_end Idle a b t u alike = (shows_fix Idle).1 a b t u
+  deads_end (Owed call seal) a b t u alike = (shows_fix (Owed call seal)).1 a b t u
+  deads_end (Unusable kind) a b t u alike = λ ends also is so. (
+    dead_told kind a b alike (dead_end image kind a ends is.0) (dead_end other kind b also so.0),
+    is.1 ∙ sym so.1,
+  )
+
+  deads_free : (st : UserStanding) (a : Answer) (t : UserState) → OwesNone s.standing
+      → CameToEnd a → UserShowsDead st p s image a t → OwesNone t.standing
+  deads_free Ready a t = (shows_fix Ready).2 a t
+  deads_free Idle a t = (shows_fix Idle).2 a t
+  deads_free (Owed call seal) a t = (shows_fix (Owed call seal)).2 a t
+  deads_free (Unusable kind) a t = λ owes ends is. stays_free s t is.1 owes
+
   lasts_fix : (st : UserStanding) → Fixes s (UserLasts st s) (UserLasts st s)
   lasts_fix Ready = stays_fix (answer.Last (pos s.done) s.last) s
   lasts_fix Idle = stays_fix answer.RefusedDown s
@@ -475,16 +528,18 @@ module _ (p : Source) (s : UserState) (image other : Words) where
   answers_state (command.Fault at) a t u alike = (stays_fix answer.Silent s).0 a t u
   answers_state (command.Power choice) a t u alike = power_state p s image other t u alike a
   answers_state command.Show a t u alike = (shows_fix s.standing).0 a t u
+  answers_state command.ShowDead a t u alike = deads_state s.standing a t u
   answers_state command.Last a t u alike = (lasts_fix s.standing).0 a t u
 
-  -- what a power cut finds has one end
-  abbrev EndsAlike : Command → Type 0
-  EndsAlike (command.Power choice) =
-      (a b : Answer) (t u : UserState) → PowerEnds p s image t s.standing a
+  -- what a power cut finds has one end, and a text of an image is that of both
+  abbrev EndsAlike : Command → Answer → Type 0
+  EndsAlike (command.Power choice) a =
+      (b : Answer) (t u : UserState) → PowerEnds p s image t s.standing a
       → PowerEnds p s other u s.standing b → (a ≡ b) × (t ≡ u)
-  EndsAlike c = Unit {0}
+  EndsAlike command.ShowDead a = HoldAlike a
+  EndsAlike c a = Unit {0}
 
-  answers_end : (c : Command) (a b : Answer) (t u : UserState) → EndsAlike c → CameToEnd a
+  answers_end : (c : Command) (a b : Answer) (t u : UserState) → EndsAlike c a → CameToEnd a
       → CameToEnd b → UserAnswers p s image c a t → UserAnswers p s other c b u
       → (a ≡ b) × (t ≡ u)
   answers_end (command.Call name args) a b t u alike =
@@ -492,8 +547,9 @@ module _ (p : Source) (s : UserState) (image other : Words) where
   answers_end (command.Stop left) a b t u alike = (stays_fix answer.Silent s).1 a b t u
   answers_end (command.Fault at) a b t u alike = (stays_fix answer.Silent s).1 a b t u
   answers_end (command.Power choice) a b t u alike = λ ends also is so.
-      alike a b t u (power_end p s image t a ends is) (power_end p s other u b also so)
+      alike b t u (power_end p s image t a ends is) (power_end p s other u b also so)
   answers_end command.Show a b t u alike = (shows_fix s.standing).1 a b t u
+  answers_end command.ShowDead a b t u alike = deads_end s.standing a b t u alike
   answers_end command.Last a b t u alike = (lasts_fix s.standing).1 a b t u
 
   answers_free : (c : Command) (a : Answer) (t : UserState) → OwesNone s.standing → CameToEnd a
@@ -504,6 +560,7 @@ module _ (p : Source) (s : UserState) (image other : Words) where
   answers_free (command.Power choice) a t = λ owes ends is.
       power_free p s image t a s.standing refl owes (power_end p s image t a ends is)
   answers_free command.Show a t = (shows_fix s.standing).2 a t
+  answers_free command.ShowDead a t = deads_free s.standing a t
   answers_free command.Last a t = (lasts_fix s.standing).2 a t
 
 counted_alike : (p : Source) (s : UserState) (image other : Words) (c : Command)
@@ -514,37 +571,40 @@ counted_alike p s image other (command.Fault at) alike = tt
 counted_alike p s image other (command.Power choice) alike =
     found_same p s image other s.standing alike
 counted_alike p s image other command.Show alike = tt
+counted_alike p s image other command.ShowDead alike = tt
 counted_alike p s image other command.Last alike = tt
 
 pub one_state_law : OneStateLaw
 one_state_law p s t u image other c a alike is so =
     answers_state p s image other c a t u (counted_alike p s image other c alike) is so
 
-same_ends : (p : Source) (s : UserState) (image : Words) (c : Command)
-    → EndsAlike p s image image c
-same_ends p s image (command.Call name args) = tt
-same_ends p s image (command.Stop left) = tt
-same_ends p s image (command.Fault at) = tt
-same_ends p s image (command.Power choice) = λ a b t u is so.
+same_ends : (p : Source) (s : UserState) (image : Words) (c : Command) (a : Answer)
+    → EndsAlike p s image image c a
+same_ends p s image (command.Call name args) a = tt
+same_ends p s image (command.Stop left) a = tt
+same_ends p s image (command.Fault at) a = tt
+same_ends p s image (command.Power choice) a = λ b t u is so.
     alike_one p s image image t u a b s.standing refl refl is so
-same_ends p s image command.Show = tt
-same_ends p s image command.Last = tt
+same_ends p s image command.Show a = tt
+same_ends p s image command.ShowDead a = λ shown. refl
+same_ends p s image command.Last a = tt
 
 pub one_end_law : OneEndLaw
 one_end_law p s t u image c a b ends also is so =
-    answers_end p s image image c a b t u (same_ends p s image c) ends also is so
+    answers_end p s image image c a b t u (same_ends p s image c a) ends also is so
 
 -- chains
 
-none_alike : (p : Source) (s : UserState) (image other : Words) (c : Command)
-    → OwesNone s.standing → EndsAlike p s image other c
-none_alike p s image other (command.Call name args) owes = tt
-none_alike p s image other (command.Stop left) owes = tt
-none_alike p s image other (command.Fault at) owes = tt
-none_alike p s image other (command.Power choice) owes = λ a b t u is so.
+none_alike : (p : Source) (s : UserState) (image other : Words) (c : Command) (a : Answer)
+    → OwesNone s.standing → (IsOfImage a → ⊥) → EndsAlike p s image other c a
+none_alike p s image other (command.Call name args) a owes told = tt
+none_alike p s image other (command.Stop left) a owes told = tt
+none_alike p s image other (command.Fault at) a owes told = tt
+none_alike p s image other (command.Power choice) a owes told = λ b t u is so.
     owing_none p s image other t u a b s.standing refl owes is so
-none_alike p s image other command.Show owes = tt
-none_alike p s image other command.Last owes = tt
+none_alike p s image other command.Show a owes told = tt
+none_alike p s image other command.ShowDead a owes told = λ shown. absurd (told shown)
+none_alike p s image other command.Last a owes told = tt
 
 -- what is found after a cut, if it leaves the same where a call is owed
 owed_alike : (p : Source) (s : UserState) (choice : Choice) (d e : Device) (st : UserStanding)
@@ -565,6 +625,7 @@ cut_alike p s d e (command.Stop left) alike = tt
 cut_alike p s d e (command.Fault at) alike = tt
 cut_alike p s d e (command.Power choice) alike = owed_alike p s choice d e s.standing alike
 cut_alike p s d e command.Show alike = tt
+cut_alike p s d e command.ShowDead alike = tt
 cut_alike p s d e command.Last alike = tt
 
 module _ (p : Source) (c : Command) (x z u w : UserMoment) (a b : Answer)
@@ -589,11 +650,12 @@ module _ (p : Source) (c : Command) (x z u w : UserMoment) (a b : Answer)
       one.meant (subst (λ (e : Answer). UserAnswers p x.state (found_by c u.device) c e w.state)
       (sym answered) moved) in (is, steps_history is)
 
-  steps_end : OwesNone x.state.standing → CameToEnd a → CameToEnd b → (a ≡ b) × KnowsTheSame z w
-  steps_end owes ends also =
+  steps_end : OwesNone x.state.standing → CameToEnd a → CameToEnd b → (IsOfImage a → ⊥)
+      → (a ≡ b) × KnowsTheSame z w
+  steps_end owes ends also told =
       let is = answers_end p x.state (found_by c x.device) (found_by c u.device) c a b z.state
-      w.state (none_alike p x.state (found_by c x.device) (found_by c u.device) c owes) ends also
-      one.meant moved in (is.0, (is.1, steps_history is.1))
+      w.state (none_alike p x.state (found_by c x.device) (found_by c u.device) c a owes told) ends
+      also one.meant moved in (is.0, (is.1, steps_history is.1))
 
 ends_same : (x y u v : UserMoment) → KnowsTheSame x u → y ≡ x → v ≡ u → KnowsTheSame y v
 ends_same x y u v same one other = (
@@ -613,30 +675,31 @@ same_answers_law p (c ∷ commands) (a ∷ answers) x y u v one other same alike
 same_ends_chain : (p : Source) (commands : List Command) (answers others : List Answer)
     (x y u v : UserMoment) → OwesNone x.state.standing → KnowsTheSame x u
     → AllByRecursion CameToEnd answers → AllByRecursion CameToEnd others
+    → AllByRecursion (λ (a : Answer). IsOfImage a → ⊥) answers
     → UserRan p commands answers x y → UserRan p commands others u v
     → (answers ≡ others) × KnowsTheSame y v
-same_ends_chain p [] [] [] x y u v owes same ends also one other =
+same_ends_chain p [] [] [] x y u v owes same ends also told one other =
     (refl, ends_same x y u v same one other)
-same_ends_chain p [] [] (b ∷ others) x y u v owes same ends also one other = absurd other
-same_ends_chain p [] (a ∷ answers) others x y u v owes same ends also one other = absurd one
-same_ends_chain p (c ∷ commands) [] others x y u v owes same ends also one other = absurd one
-same_ends_chain p (c ∷ commands) (a ∷ answers) [] x y u v owes same ends also one other =
+same_ends_chain p [] [] (b ∷ others) x y u v owes same ends also told one other = absurd other
+same_ends_chain p [] (a ∷ answers) others x y u v owes same ends also told one other = absurd one
+same_ends_chain p (c ∷ commands) [] others x y u v owes same ends also told one other = absurd one
+same_ends_chain p (c ∷ commands) (a ∷ answers) [] x y u v owes same ends also told one other =
     absurd other
-same_ends_chain p (c ∷ commands) (a ∷ answers) (b ∷ others) x y u v owes same ends also one
+same_ends_chain p (c ∷ commands) (a ∷ answers) (b ∷ others) x y u v owes same ends also told one
     other =
-    let first = steps_end p c x one.0 u other.0 a b same one.1 other.1 owes ends.0 also.0 in
+    let first = steps_end p c x one.0 u other.0 a b same one.1 other.1 owes ends.0 also.0 told.0 in
     let rest = same_ends_chain p commands answers others one.0 y other.0 v
     (answers_free p x.state (found_by c x.device) (found_by c x.device) c a one.0.state owes ends.0
-    one.1.meant) first.1 ends.1 also.1 one.2 other.2 in (
+    one.1.meant) first.1 ends.1 also.1 told.1 one.2 other.2 in (
       ap (λ (e : Answer). e ∷ answers) first.0
           ∙ ap (λ (es : List Answer). b ∷ es) rest.0,
       rest.1,
     )
 
 pub same_script_law : SameScriptLaw
-same_script_law p commands answers others x y u v ready same ends also one other =
+same_script_law p commands answers others x y u v ready same ends also told one other =
     same_ends_chain p commands answers others x y u v
-    (subst OwesNone (sym ready) tt) same ends also one other
+    (subst OwesNone (sym ready) tt) same ends also told one other
 
 -- the commands that a text means
 commands_in : Result (List Command) ℕ → List Command
@@ -645,7 +708,7 @@ commands_in (Err line) = []
 
 pub same_output_law : SameOutputLaw
 unfolding commands_in
-same_output_law text script meaning sizes d b e f written rewritten run again ends also =
+same_output_law text script meaning sizes d b e f written rewritten run again ends also told =
     let p : Source = source_with meaning sizes in
     let same : run.commands ≡ again.commands =
     ap commands_in (sym run.spelled ∙ again.spelled) in
@@ -653,7 +716,7 @@ same_output_law text script meaning sizes d b e f written rewritten run again en
     subst (λ (commands : List Command).
     UserRan p commands again.answers (first_moment p e) again.last) (sym same) again.ran in
     let one = same_script_law p run.commands run.answers again.answers (first_moment p d) run.last
-    (first_moment p e) again.last refl (refl, refl) ends also run.ran moved in (
+    (first_moment p e) again.last refl (refl, refl) ends also told run.ran moved in (
       run.written_is ∙ ap (λ (answers : List Answer). flat_map answer_text answers) one.0
           ∙ sym again.written_is,
       one.1,

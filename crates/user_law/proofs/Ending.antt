@@ -79,6 +79,7 @@ module _ (d b : Device) (es : List CacheEvent) (quiet : IsQuiet d) where
   played_quiet (answer.RecoveredTrap kind) is = (λ i. i, all_quiet es d b quiet is)
   played_quiet (answer.RecoveredAborted kind) is = (λ i. i, all_quiet es d b quiet is)
   played_quiet (answer.Shown text) is = (λ i. i, same_quiet is)
+  played_quiet (answer.ShownDead trap text) is = (λ i. i, same_quiet is)
   played_quiet (answer.Last n value) is = (λ i. i, same_quiet is)
   played_quiet answer.NoMemory (inl is) = (λ i. i, same_quiet is)
   played_quiet answer.NoMemory (inr is) = (λ i. i, part_quiet es d b quiet is)
@@ -113,6 +114,7 @@ module _ (choice : Choice) (d : Device) (quiet : IsQuiet d) where
   power_quiet (answer.RecoveredTrap kind) = cut_quiet
   power_quiet (answer.RecoveredAborted kind) = cut_quiet
   power_quiet (answer.Shown text) = cut_quiet
+  power_quiet (answer.ShownDead trap text) = cut_quiet
   power_quiet (answer.Last n value) = cut_quiet
   power_quiet answer.NoMemory = cut_quiet
   power_quiet answer.RefusedDown = cut_quiet
@@ -129,6 +131,7 @@ command_quiet (command.Stop left) a d arms quiet = absurd arms
 command_quiet (command.Fault at) a d arms quiet = absurd arms
 command_quiet (command.Power choice) a d arms quiet = power_quiet choice d quiet a
 command_quiet command.Show a d arms quiet = quiet
+command_quiet command.ShowDead a d arms quiet = quiet
 command_quiet command.Last a d arms quiet = quiet
 
 pub quiet_script_law : QuietScriptLaw
@@ -202,6 +205,7 @@ module _ (p : Source) (choice : Choice) (x y : UserMoment) (left : x.device.left
   power_ends (answer.RecoveredTrap kind) es played is = ended (answer.RecoveredTrap kind) is.1
   power_ends (answer.RecoveredAborted kind) es played is = ended (answer.RecoveredAborted kind) is.1
   power_ends (answer.Shown text) es played is = ended (answer.Shown text) is.1
+  power_ends (answer.ShownDead trap text) es played is = ended (answer.ShownDead trap text) is.1
   power_ends (answer.Last n value) es played is = ended (answer.Last n value) is.1
   power_ends answer.NoMemory es played is = tt
   power_ends answer.RefusedDown es played is = ended answer.RefusedDown is.1
@@ -241,6 +245,7 @@ module _ (p : Source) (s t : UserState) (image : Words) (d b : Device) (es : Lis
   run_ends call (answer.RecoveredAborted kind) played is =
       run_ended call (answer.RecoveredAborted kind) is
   run_ends call (answer.Shown text) played is = run_ended call (answer.Shown text) is
+  run_ends call (answer.ShownDead trap text) played is = run_ended call (answer.ShownDead trap text) is
   run_ends call (answer.Last n value) played is = run_ended call (answer.Last n value) is
   run_ends call answer.NoMemory played is = tt
   run_ends call answer.RefusedDown played is = run_ended call answer.RefusedDown is

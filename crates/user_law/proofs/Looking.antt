@@ -56,6 +56,7 @@ only_same program logs (command.Stop left) = refl
 only_same program logs (command.Fault at) = refl
 only_same program logs (command.Power choice) = refl
 only_same program logs command.Show = refl
+only_same program logs command.ShowDead = refl
 only_same program logs command.Last = refl
 
 -- no event leaves the device
@@ -71,6 +72,7 @@ none_same (answer.RecoveredRedone value logged) d b is = is
 none_same (answer.RecoveredTrap kind) d b is = is
 none_same (answer.RecoveredAborted kind) d b is = is
 none_same (answer.Shown text) d b is = is
+none_same (answer.ShownDead trap text) d b is = is
 none_same (answer.Last n value) d b is = is
 none_same answer.NoMemory d b (inl is) = is
 none_same answer.NoMemory d b (inr is) = absurd is
@@ -145,4 +147,5 @@ look_law p (command.Stop left) x y a only step = absurd (false≢true only)
 look_law p (command.Fault at) x y a only step = absurd (false≢true only)
 look_law p (command.Power choice) x y a only step = absurd (false≢true only)
 look_law p command.Show x y a only step = absurd (false≢true only)
+look_law p command.ShowDead x y a only step = absurd (false≢true only)
 look_law p command.Last x y a only step = absurd (false≢true only)

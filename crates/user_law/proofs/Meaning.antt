@@ -34,6 +34,7 @@ use Rattle.user_law.specs.State.{state_after}
 use Rattle.user_law.specs.Answers.{call_told, recovery_told, call_told_by, recovery_told_by}
 use Rattle.user_law.specs.Answers.{finished, UserRuns, UserLooks, UserRunsAs, UserCallsWith}
 use Rattle.user_law.specs.Answers.{UserCallsTo, UserCallsNamed, UserCalls, UserTells, UserShows}
+use Rattle.user_law.specs.Answers.{UserShowsDead}
 use Rattle.user_law.specs.Answers.{UserLasts, NumbersAreOut}
 use Rattle.user_law.specs.Answers.{has_next_seal, has_next_count, found_by_seal, found_as}
 use Rattle.user_law.specs.Answers.{UserRecovers}
@@ -197,6 +198,7 @@ module _ (program : Program) (logs : Logs) (count : HasCounts program logs) wher
     runs_meant call (answer.RecoveredTrap kind) is = absurd is
     runs_meant call (answer.RecoveredAborted kind) is = absurd is
     runs_meant call (answer.Shown text) is = absurd is
+    runs_meant call (answer.ShownDead trap text) is = absurd is
     runs_meant call (answer.Last n value) is = absurd is
     runs_meant call answer.NoMemory is = (stands_as (Owed call phase.Sealing) s, is, refl)
     runs_meant call answer.RefusedDown is = absurd is
@@ -260,6 +262,7 @@ module _ (program : Program) (logs : Logs) (count : HasCounts program logs) wher
     tells_meant (answer.RecoveredTrap kind) is = absurd is
     tells_meant (answer.RecoveredAborted kind) is = absurd is
     tells_meant (answer.Shown text) is = (s, is.1, (ap answer.Shown is.0, refl))
+    tells_meant (answer.ShownDead trap text) is = absurd is
     tells_meant (answer.Last n value) is = absurd is
     tells_meant answer.NoMemory is = (stands_as Idle s, is, refl)
     tells_meant answer.RefusedDown is = absurd is
@@ -275,6 +278,14 @@ module _ (program : Program) (logs : Logs) (count : HasCounts program logs) wher
     shows_meant Idle a is = (s, is.1, (is.0, refl))
     shows_meant (Owed call seal) a is = (s, is.1, (is.0, refl))
     shows_meant (Unusable kind) a is = (s, is.1, (is.0, refl))
+
+    deads_meant : (st : UserStanding) (a : Answer) →
+        machine.ShowsDead (plain_standing st) program (plain s) image a t →
+        HasState t (UserShowsDead st p s image a)
+    deads_meant Ready a is = shows_meant Ready a is
+    deads_meant Idle a is = shows_meant Idle a is
+    deads_meant (Owed call seal) a is = shows_meant (Owed call seal) a is
+    deads_meant (Unusable kind) a is = (s, is.1, (is.0, refl))
 
     lasts_meant : (st : UserStanding) (a : Answer) →
         machine.Lasts (plain_standing st) (plain s) a t →
@@ -298,6 +309,7 @@ module _ (program : Program) (logs : Logs) (count : HasCounts program logs) wher
     rests_meant (answer.RecoveredTrap kind) is = absurd is
     rests_meant (answer.RecoveredAborted kind) is = absurd is
     rests_meant (answer.Shown text) is = absurd is
+    rests_meant (answer.ShownDead trap text) is = absurd is
     rests_meant (answer.Last n value) is = absurd is
     rests_meant answer.NoMemory is = (stands_as Idle s, is, refl)
     rests_meant answer.RefusedDown is = absurd is
@@ -329,6 +341,7 @@ module _ (program : Program) (logs : Logs) (count : HasCounts program logs) wher
     redoes_meant call (answer.RecoveredAborted kind) is =
         retrap_meant (waiting call) t call true is.0 kind is.1 is.2
     redoes_meant call (answer.Shown text) is = absurd is
+    redoes_meant call (answer.ShownDead trap text) is = absurd is
     redoes_meant call (answer.Last n value) is = absurd is
     redoes_meant call answer.NoMemory is = (waiting call, is, refl)
     redoes_meant call answer.RefusedDown is = absurd is
@@ -437,6 +450,8 @@ module _ (program : Program) (logs : Logs) (count : HasCounts program logs) wher
         recovered_meant (answer.RecoveredAborted kind) is
     powers_meant (answer.Shown text) is =
         recovered_meant (answer.Shown text) is
+    powers_meant (answer.ShownDead trap text) is =
+        recovered_meant (answer.ShownDead trap text) is
     powers_meant (answer.Last n value) is =
         recovered_meant (answer.Last n value) is
     powers_meant answer.NoMemory is =
@@ -462,5 +477,7 @@ meant_law program logs s t image (command.Power choice) a count is =
     powers_meant program logs count s image t a is
 meant_law program logs s t image command.Show a count is =
     shows_meant program logs count s image t s.standing a is
+meant_law program logs s t image command.ShowDead a count is =
+    deads_meant program logs count s image t s.standing a is
 meant_law program logs s t image command.Last a count is =
     lasts_meant program logs count s image t s.standing a is

@@ -24,7 +24,7 @@ use Rattle.user_law.specs.Source.{Source, number_named, arity_of, comes_to, roll
 use Rattle.user_law.specs.State.{UserStanding, Ready, Idle, Owed, Unusable, UserState, stands_as}
 use Rattle.user_law.specs.State.{state_after}
 use Rattle.user_law.specs.Answers.{finished, UserRunsAs, UserCallsWith, UserCallsTo}
-use Rattle.user_law.specs.Answers.{UserCallsNamed, UserCalls, UserShows, UserLasts}
+use Rattle.user_law.specs.Answers.{UserCallsNamed, UserCalls, UserShows, UserShowsDead, UserLasts}
 use Rattle.user_law.specs.Answers.{has_next_seal, has_next_count, found_by_seal, found_as}
 use Rattle.user_law.specs.Answers.{RecoveryEnds, UserAnswers}
 use Rattle.user_law.specs.Answers.{UserRecovers, UserPowers}
@@ -138,6 +138,12 @@ module _ (p : Source) (s : UserState) where
     shows_move (Owed call seal) is = same_moves [] t is.1
     shows_move (Unusable kind) is = same_moves [] t is.1
 
+    deads_move : (st : UserStanding) → UserShowsDead st p s image a t → Moves p s [] t
+    deads_move Ready is = shows_move Ready is
+    deads_move Idle is = shows_move Idle is
+    deads_move (Owed call seal) is = shows_move (Owed call seal) is
+    deads_move (Unusable kind) is = same_moves [] t is.1
+
     lasts_move : (st : UserStanding) → UserLasts st s a t → Moves p s [] t
     lasts_move Ready is = same_moves [] t is.1
     lasts_move Idle is = same_moves [] t is.1
@@ -239,6 +245,7 @@ module _ (p : Source) (s : UserState) where
   answers_move image (command.Fault at) a t is = same_moves [] t is.1
   answers_move image (command.Power choice) a t is = powers_move image a t is
   answers_move image command.Show a t is = shows_move image a t s.standing is
+  answers_move image command.ShowDead a t is = deads_move image a t s.standing is
   answers_move image command.Last a t is = lasts_move image a t s.standing is
 
 module _ (p : Source) (x y : UserMoment) (subject : List Pending)

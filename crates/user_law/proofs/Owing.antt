@@ -34,7 +34,8 @@ use Rattle.user_law.specs.State.{UserStanding, Ready, Idle, Owed, Unusable, User
 use Rattle.user_law.specs.State.{state_after}
 use Rattle.user_law.specs.Answers.{UserRuns, UserRunsAs, UserCallsWith, UserCallsTo}
 use Rattle.user_law.specs.Answers.{UserCallsNamed, UserCalls}
-use Rattle.user_law.specs.Answers.{UserShows, UserLasts, has_next_seal, has_next_count, finished}
+use Rattle.user_law.specs.Answers.{UserShows, UserShowsDead, UserLasts, has_next_seal}
+use Rattle.user_law.specs.Answers.{has_next_count, finished}
 use Rattle.user_law.specs.Answers.{found_by_seal, found_as, RecoveryEnds, UserRecovers, UserPowers}
 use Rattle.user_law.specs.Answers.{UserAnswers}
 use Rattle.user_law.specs.Keeps.{IsOwedAt, HasNextSeal, UserKeepsAs, UserKeeps}
@@ -220,6 +221,27 @@ module _ (program : Program) (super : Words) (logs : Logs) (agrees : Agrees prog
     shows_phased did image (Owed call seal) standing is = same_phased v is.1 (shows_cache did)
     shows_phased did image (Unusable kind) standing is = same_phased v is.1 (shows_cache did)
 
+    deads_cache : Commanded program command.ShowDead m d a n b k k1 → IsOwing s.standing →
+        b.cache ≡ d.cache
+    deads_cache did owing = by_mode m (down_as s.standing holds owing) did
+      where
+        by_mode : (x : Mode) → x ≡ mode.Down → Commanded program command.ShowDead x d a n b k k1 →
+            b.cache ≡ d.cache
+        by_mode mode.Down is done = ap (λ (e : Device). e.cache) done.2
+        by_mode mode.Ready is done = let clash : mode.Ready ≡ mode.Down = is in absurd cc
+        by_mode (mode.Unusable kind) is done =
+            let clash : mode.Unusable kind ≡ mode.Down = is in absurd cc
+
+    deads_phased : Commanded program command.ShowDead m d a n b k k1 → (image : Words) →
+        (st : UserStanding) → UserShowsDead st p s image a v → Phased v
+    deads_phased did image Ready is =
+        ⊎_elim (λ (same : v ≡ s). same_phased v same (deads_cache did))
+        (λ (idle : v ≡ stands_as Idle s). plain_phased Idle s (λ no. no) idle)
+        (tells_by p s v image a is)
+    deads_phased did image Idle is = same_phased v is.1 (deads_cache did)
+    deads_phased did image (Owed call seal) is = same_phased v is.1 (deads_cache did)
+    deads_phased did image (Unusable kind) is = same_phased v is.1 (deads_cache did)
+
     lasts_cache : Commanded program command.Last m d a n b k k1 → IsOwing s.standing →
         b.cache ≡ d.cache
     lasts_cache did owing = by_mode m (down_as s.standing holds owing) did
@@ -344,4 +366,6 @@ module _ (program : Program) (super : Words) (logs : Logs) (agrees : Agrees prog
     step_phased (command.Power choice) words did is = powers_phased choice did is
     step_phased command.Show words did is =
         shows_phased did (view d.cache) s.standing refl is
+    step_phased command.ShowDead words did is =
+        deads_phased did (view d.cache) s.standing is
     step_phased command.Last words did is = lasts_phased did s.standing is

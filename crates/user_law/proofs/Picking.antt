@@ -71,6 +71,7 @@ pick_told program (command.Power choice) m n d b a k k1 is =
     power_told program m n d b a k k1 choice (fallen 0 choice.picks)
     (bad (memory_of d) choice.picks) refl refl is
 pick_told program command.Show m n d b a k k1 is = tt
+pick_told program command.ShowDead m n d b a k k1 is = tt
 pick_told program command.Last m n d b a k k1 is = tt
 
 some_none : (o : Option ℕ) (line : ℕ) → o ≡ Some line → o ≡ None → ⊥
@@ -96,6 +97,7 @@ module _ (choice : Choice) (d : Device) (line : ℕ) (is : unfit choice d ≡ So
   same_pick (answer.RecoveredTrap kind) so = absurd (some_none (unfit choice d) line is so)
   same_pick (answer.RecoveredAborted kind) so = absurd (some_none (unfit choice d) line is so)
   same_pick (answer.Shown text) so = absurd (some_none (unfit choice d) line is so)
+  same_pick (answer.ShownDead trap text) so = absurd (some_none (unfit choice d) line is so)
   same_pick (answer.Last n value) so = absurd (some_none (unfit choice d) line is so)
   same_pick answer.NoMemory so = absurd (some_none (unfit choice d) line is so)
   same_pick answer.RefusedDown so = absurd (some_none (unfit choice d) line is so)
@@ -119,6 +121,7 @@ one_pick_of choice d (answer.RecoveredRedone value logged) b bad is so = absurd 
 one_pick_of choice d (answer.RecoveredTrap kind) b bad is so = absurd bad
 one_pick_of choice d (answer.RecoveredAborted kind) b bad is so = absurd bad
 one_pick_of choice d (answer.Shown text) b bad is so = absurd bad
+one_pick_of choice d (answer.ShownDead trap text) b bad is so = absurd bad
 one_pick_of choice d (answer.Last n value) b bad is so = absurd bad
 one_pick_of choice d answer.NoMemory b bad is so = absurd bad
 one_pick_of choice d answer.RefusedDown b bad is so = absurd bad

@@ -1,7 +1,7 @@
 -- The events of a command, from what the machine and the device did.
 use Rattle.std.proofs.Common.{◌≡◌, ◌⊎◌, inl, inr, ℕ, ◌+◌, ◌*◌, ◌≤◌, ◌==◌, ◌&&◌, Bool, true, false}
 use Rattle.std.proofs.Common.{if◌then◌else◌, List, [], length, Option, Some, None, ℤ, pos, int_eq}
-use Rattle.std.proofs.Common.{refl, sym, ap, ◌∙◌, subst, arith}
+use Rattle.std.proofs.Common.{refl, sym, ap, ◌∙◌, subst, arith, ⊎_elim}
 use Rattle.std.specs.Option.{option_map_or}
 use Rattle.std.proofs.lemmas.Bool.Decides.{Decides-int_eq}
 use Rattle.cache_model.specs.Cache.{Words, view}
@@ -52,6 +52,7 @@ use Rattle.cnvm_session.specs.Pool.{sizes_of}
 use Rattle.session_law.specs.Holds.{HoldsAs}
 use Rattle.session_law.specs.State as session
 use Rattle.session_law.specs.State.{SourceState}
+use Rattle.session_law.proofs.Dead.{told_dead}
 use Rattle.user_law.specs.Played.{prepared, PlaysAs}
 use Rattle.user_law.specs.Seen.{PlayedLaw}
 use Rattle.user_law.proofs.Counting.{most_events, call_few, clean_few, redo_few}
@@ -286,6 +287,7 @@ module _ (program : Program) (d b : Device) (a : Answer) (n : Mode) (k k1 : ℕ)
     where
       tells_play : (x : Answer) → commanded.Tells shapes s d x n → b ≡ d → PlaysAs x d [] b
       tells_play (answer.Shown text) tells same = same
+      tells_play (answer.ShownDead trap text) tells same = absurd tells
       tells_play answer.NoMemory tells same = inl same
       tells_play answer.Silent tells same = absurd tells
       tells_play (answer.Done value logged) tells same = absurd tells
@@ -307,6 +309,15 @@ module _ (program : Program) (d b : Device) (a : Answer) (n : Mode) (k k1 : ℕ)
   shows_play mode.Down shapes s is = none_played its_most a answer.RefusedDown d b is.0 is.2
   shows_play (mode.Unusable kind) shapes s is =
       none_played its_most a (answer.RefusedUnusable kind) d b is.0 is.2
+
+  deads_play : (m : Mode) (shapes : Shapes) (s : Sizes) →
+      commanded.ShowsDead shapes s m d a n b k k1 → Performed a d b
+  deads_play mode.Ready shapes s is = shows_play mode.Ready shapes s is
+  deads_play mode.Down shapes s is = shows_play mode.Down shapes s is
+  deads_play (mode.Unusable kind) shapes s is =
+      ⊎_elim (λ shown. none_played its_most a (answer.ShownDead kind shown.0) d b shown.1 is.2)
+      (λ none. ([], omega arith, subst (λ (x : Answer). PlaysAs x d [] b) (sym none) (inl is.2)))
+      (told_dead shapes s kind d a is.0)
 
   lasts_play : (m : Mode) → (m ≡ mode.Ready → d.on ≡ true) → commanded.Lasts m d a n b k k1 →
       Performed a d b
@@ -355,6 +366,8 @@ module _ (program : Program) (d b : Device) (a : Answer) (n : Mode) (k k1 : ℕ)
   commanded_plays (command.Power choice) m on is = power_plays m choice is
   commanded_plays command.Show m on is =
       shows_play m (shapes_of program.typed) program.image.parts.sizes is
+  commanded_plays command.ShowDead m on is =
+      deads_play m (shapes_of program.typed) program.image.parts.sizes is
   commanded_plays command.Last m on is = lasts_play m on is
 
 -- a session that takes calls has a device that is on

@@ -23,8 +23,8 @@ use Rattle.session_law.proofs.Ones.{at_left}
 use Rattle.user_law.specs.Source.{Source, rolls_back, comes_to, number_named}
 use Rattle.user_law.specs.State.{UserStanding, Ready, Idle, Owed, Unusable, UserState, stands_as}
 use Rattle.user_law.specs.State.{state_after}
-use Rattle.user_law.specs.Answers.{UserCalls, UserShows, UserLasts, has_next_seal, has_next_count}
-use Rattle.user_law.specs.Answers.{RecoveryEnds}
+use Rattle.user_law.specs.Answers.{UserCalls, UserShows, UserShowsDead, UserLasts}
+use Rattle.user_law.specs.Answers.{has_next_seal, has_next_count, RecoveryEnds}
 use Rattle.user_law.specs.Answers.{found_by_seal, found_as, UserRecovers, UserPowers}
 use Rattle.user_law.specs.History.{owed_in, subject_of, finished_by}
 use Rattle.user_law.specs.Keeps.{UserKeeps, UserKeepsAs, HasNextSeal}
@@ -61,6 +61,12 @@ module _ (p : Source) (s t : UserState) (image : Words) (a : Answer) where
   shows_same Idle blocks is = is.1
   shows_same (Owed call seal) blocks is = is.1
   shows_same (Unusable kind) blocks is = is.1
+
+  deads_same : (st : UserStanding) → Blocks st → UserShowsDead st p s image a t → t ≡ s
+  deads_same Ready blocks is = absurd blocks
+  deads_same Idle blocks is = is.1
+  deads_same (Owed call seal) blocks is = is.1
+  deads_same (Unusable kind) blocks is = is.1
 
   lasts_same : (st : UserStanding) → Blocks st → UserLasts st s a t → t ≡ s
   lasts_same Ready blocks is = is.1
@@ -179,6 +185,7 @@ no_cut (answer.RecoveredRedone value logged) bad cut = bad
 no_cut (answer.RecoveredTrap kind) bad cut = bad
 no_cut (answer.RecoveredAborted kind) bad cut = bad
 no_cut (answer.Shown text) bad cut = bad
+no_cut (answer.ShownDead trap text) bad cut = bad
 no_cut (answer.Last n value) bad cut = bad
 no_cut answer.NoMemory bad cut = bad
 no_cut answer.RefusedDown bad cut = bad
@@ -254,6 +261,13 @@ module _ (p : Source) (before : List Pending) (call : Pending)
       (Owed call phase.Sealed) tt
       (subst (λ (st : UserStanding). UserShows st p x.state a y.state) standing step.meant))
       step.history
+  owed_step command.ShowDead step keeps standing same =
+      still_owed [] standing same
+      (deads_same p x.state y.state (found_by command.ShowDead x.device) a
+      (Owed call phase.Sealed) tt
+      (subst (λ (st : UserStanding). UserShowsDead st p x.state
+      (found_by command.ShowDead x.device) a y.state) standing step.meant))
+      step.history
   owed_step command.Last step keeps standing same =
       still_owed [] standing same
       (lasts_same p x.state y.state (found_by command.Last x.device) a
@@ -292,6 +306,11 @@ module _ (p : Source) (before : List Pending) (call : Pending)
       still_lost kind standing
       (shows_same p x.state y.state (found_by command.Show x.device) a (Unusable kind) tt
       (subst (λ (st : UserStanding). UserShows st p x.state a y.state) standing step.meant))
+  lost_step command.ShowDead step kind standing =
+      still_lost kind standing
+      (deads_same p x.state y.state (found_by command.ShowDead x.device) a (Unusable kind) tt
+      (subst (λ (st : UserStanding). UserShowsDead st p x.state
+      (found_by command.ShowDead x.device) a y.state) standing step.meant))
   lost_step command.Last step kind standing =
       still_lost kind standing
       (lasts_same p x.state y.state (found_by command.Last x.device) a (Unusable kind) tt

@@ -52,6 +52,7 @@ called_all call (answer.RecoveredRedone value logged) = inl refl
 called_all call (answer.RecoveredTrap kind) = inl refl
 called_all call (answer.RecoveredAborted kind) = inl refl
 called_all call (answer.Shown text) = inl refl
+called_all call (answer.ShownDead trap text) = inl refl
 called_all call (answer.Last n value) = inl refl
 called_all call answer.NoMemory = inl refl
 called_all call answer.RefusedDown = inl refl
@@ -96,6 +97,7 @@ module _ (s : SourceState) (image : Words) where
   recovered_all (answer.RecoveredTrap kind) = retired_all (is_retired s image)
   recovered_all (answer.RecoveredAborted kind) = inr refl
   recovered_all (answer.Shown text) = retired_all (is_retired s image)
+  recovered_all (answer.ShownDead trap text) = retired_all (is_retired s image)
   recovered_all (answer.Last n value) = retired_all (is_retired s image)
   recovered_all answer.NoMemory = retired_all (is_retired s image)
   recovered_all answer.RefusedDown = retired_all (is_retired s image)
@@ -160,6 +162,7 @@ module _ (program : Program) (logs : Logs) (s v : UserState) (image : Words) (a 
   subject_few (command.Fault at) = omega arith
   subject_few (command.Power choice) = owed_few s.standing
   subject_few command.Show = omega arith
+  subject_few command.ShowDead = omega arith
   subject_few command.Last = omega arith
 
   done_all : (c : Command) → NoneOrAll (subject_of p s c) (done_by program (plain s) image c a)
@@ -170,6 +173,7 @@ module _ (program : Program) (logs : Logs) (s v : UserState) (image : Words) (a 
       subst (λ (xs : List Pending). NoneOrAll xs (recovered_by (plain s) image a))
       (waiting_is s.standing) (recovered_all (plain s) image a)
   done_all command.Show = inl refl
+  done_all command.ShowDead = inl refl
   done_all command.Last = inl refl
 
   pub history_is : (c : Command) → machine.Answers program (plain s) image c a (plain v) →

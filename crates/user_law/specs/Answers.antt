@@ -1,7 +1,8 @@
 -- What each command answers, and what the user knows after it. Of the device this looks at one
 -- image, the one that the command finds: for `power` what the cut left of the lines, for any other
--- command the newest versions. Of the image it reads the seal, the counts and the mark.
-use Rattle.std.specs.Prelude.{ℕ, suc, ◌≡◌, ◌==◌, ◌&&◌, Bool, true, false, List}
+-- command the newest versions. Of the image it reads the seal, the counts and the mark; and for
+-- `show dead`, where a trap has ended the pool, the heap.
+use Rattle.std.specs.Prelude.{ℕ, suc, ◌≡◌, ◌⊎◌, ◌==◌, ◌&&◌, Bool, true, false, List}
 use Rattle.std.specs.Prelude.{length, Option, Some, None, ℤ, pos}
 use Rattle.std.specs.Ordering.{int_eq}
 use Rattle.cache_model.specs.Cache.{Words}
@@ -20,7 +21,7 @@ use Rattle.cnvm_session.specs.declared.answer.Answer.{Answer}
 use Rattle.cnvm_session.specs.declared.answer.Answer.TheVariants as answer
 use Rattle.session_law.specs.State.{Pending}
 use Rattle.user_law.specs.Source.{Source, number_named, arity_of, rolls_back, looks, means}
-use Rattle.user_law.specs.Source.{comes_to}
+use Rattle.user_law.specs.Source.{comes_to, pool_of_image}
 use Rattle.user_law.specs.State.{UserStanding, Ready, Idle, Owed, Unusable, UserState, stands_as}
 use Rattle.user_law.specs.State.{state_after}
 
@@ -120,6 +121,18 @@ UserShows Ready p s a t = UserTells p s a t
 UserShows (Unusable kind) p s a t = StaysWith (answer.RefusedUnusable kind) s a t
 UserShows standing p s a t = StaysWith answer.RefusedDown s a t
 
+-- The text of the pool in the image, with the trap that has ended it: the user doesn't know this
+-- pool. Or there was no memory for the text.
+abbrev pub UserTellsDead : Source → Words → TrapKind → Answer → Type 0
+UserTellsDead p image kind a =
+    (a ≡ answer.ShownDead kind (pool_text (shapes_in p.tables) (pool_of_image p image)))
+    ⊎ (a ≡ answer.NoMemory)
+
+-- only where a trap has ended the pool the answer isn't that of `show`; and then nothing changes
+abbrev pub UserShowsDead : UserStanding → Source → UserState → Words → Answer → UserState → Type 0
+UserShowsDead (Unusable kind) p s image a t = UserTellsDead p image kind a × (t ≡ s)
+UserShowsDead standing p s image a t = UserShows standing p s a t
+
 abbrev pub UserLasts : UserStanding → UserState → Answer → UserState → Type 0
 UserLasts Ready s a t = StaysWith (answer.Last (pos s.done) s.last) s a t
 UserLasts (Unusable kind) s a t = StaysWith (answer.RefusedUnusable kind) s a t
@@ -191,4 +204,5 @@ UserAnswers p s image (command.Stop left) a t = StaysWith answer.Silent s a t
 UserAnswers p s image (command.Fault at) a t = StaysWith answer.Silent s a t
 UserAnswers p s image (command.Power choice) a t = UserPowers p s image a t
 UserAnswers p s image command.Show a t = UserShows s.standing p s a t
+UserAnswers p s image command.ShowDead a t = UserShowsDead s.standing p s image a t
 UserAnswers p s image command.Last a t = UserLasts s.standing s a t

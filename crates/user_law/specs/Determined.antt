@@ -31,6 +31,12 @@ CameToEnd answer.RefusedNumbers = ⊥
 CameToEnd (answer.RefusedPick line) = ⊥
 CameToEnd a = Unit {0}
 
+-- The answer is the text of a pool that a trap has ended. This is the image's, which the source
+-- doesn't tell.
+abbrev pub IsOfImage : Answer → Type 0
+IsOfImage (answer.ShownDead kind text) = Unit {0}
+IsOfImage a = ⊥
+
 -- the two images have the same seal and count as many transactions as finished
 abbrev pub CountAlike : Words → Words → Type 0
 CountAlike image other = (image SEAL ≡ other SEAL) × (image DONE ≡ other DONE)
@@ -99,14 +105,16 @@ SameAnswersLaw =
     (one : UserRan p commands answers x y) (other : UserRan p commands answers u v) →
     KnowsTheSame x u → AllCutAlike p commands answers x y u v one other → KnowsTheSame y v
 
--- Where each command comes to its end, a script has one list of answers and leads to one pool,
--- whatever the devices hold, do, and leave at a power cut.
+-- Where each command comes to its end, and none shows a pool that a trap has ended, a script has
+-- one list of answers and leads to one pool, whatever the devices hold, do, and leave at a power
+-- cut.
 abbrev pub SameScriptLaw : Type 0
 SameScriptLaw =
     (p : Source) (commands : List Command) (answers others : List Answer)
     (x y u v : UserMoment) →
     x.state.standing ≡ Ready → KnowsTheSame x u →
     AllByRecursion CameToEnd answers → AllByRecursion CameToEnd others →
+    AllByRecursion (λ a. IsOfImage a → ⊥) answers →
     UserRan p commands answers x y → UserRan p commands others u v →
     (answers ≡ others) × KnowsTheSame y v
 
@@ -117,6 +125,7 @@ SameOutputLaw =
     (written rewritten : List ℕ) (run : IsUserRun text script meaning sizes d b written)
     (again : IsUserRun text script meaning sizes e f rewritten) →
     AllByRecursion CameToEnd run.answers → AllByRecursion CameToEnd again.answers →
+    AllByRecursion (λ a. IsOfImage a → ⊥) run.answers →
     (written ≡ rewritten) × KnowsTheSame run.last again.last
 
 -- Whether a power cut is refused for a pick, and for which, is one answer, which the choice and

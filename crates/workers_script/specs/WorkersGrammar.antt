@@ -37,6 +37,7 @@ start_with worker (script.Stop left) = None
 start_with worker (script.Fault at) = None
 start_with worker (script.Power choice) = None
 start_with worker script.Show = None
+start_with worker script.ShowDead = None
 start_with worker script.Last = None
 
 abbrev pub start_of : List (List ℕ) → Option WorkersCommand
@@ -55,6 +56,7 @@ power_with (script.Call name args) = None
 power_with (script.Stop left) = None
 power_with (script.Fault at) = None
 power_with script.Show = None
+power_with script.ShowDead = None
 power_with script.Last = None
 
 -- the single number of a worker

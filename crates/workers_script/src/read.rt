@@ -144,8 +144,12 @@ fn read_start(alloc: Global, words: &[&[u8]]) -> Result<WorkersCommand, LineFaul
     };
     match read_call(alloc, call)? {
         Command::Call { name, args } => Ok(WorkersCommand::Start { worker, name, args }),
-        Command::Stop(_) | Command::Fault(_) | Command::Power(_) | Command::Show | Command::Last =>
-            Err(LineFault::Bad),
+        Command::Stop(_)
+        | Command::Fault(_)
+        | Command::Power(_)
+        | Command::Show
+        | Command::ShowDead
+        | Command::Last => Err(LineFault::Bad),
     }
 }
 
@@ -183,6 +187,7 @@ fn read_cut(alloc: Global, words: &[&[u8]]) -> Result<WorkersCommand, LineFault>
         | Command::Stop(_)
         | Command::Fault(_)
         | Command::Show
+        | Command::ShowDead
         | Command::Last => Err(LineFault::Bad),
     }
 }

@@ -343,6 +343,7 @@ module _ (program : Program) (s : SourceState) (tx : ℕ) (args : List ℤ) wher
   runs (answer.RecoveredTrap kind) t image is = absurd is
   runs (answer.RecoveredAborted kind) t image is = absurd is
   runs (answer.Shown text) t image is = absurd is
+  runs (answer.ShownDead trap text) t image is = absurd is
   runs (answer.Last done value) t image is = absurd is
   runs answer.NoMemory t image is = absurd is
   runs answer.RefusedDown t image is = absurd is

@@ -119,6 +119,7 @@ module _ (program : Program) where
     ends_done (answer.RecoveredTrap kind) plain is = absurd is
     ends_done (answer.RecoveredAborted kind) plain is = absurd is
     ends_done (answer.Shown text) plain is = absurd is
+    ends_done (answer.ShownDead trap text) plain is = absurd is
     ends_done (answer.Last done value) plain is = absurd is
     ends_done answer.NoMemory plain is = absurd is
     ends_done answer.RefusedDown plain is = absurd is

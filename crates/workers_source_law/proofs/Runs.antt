@@ -60,7 +60,8 @@ module _ (program : Program) where
       (created_rests program (quiet_on n blank) (quiet_on n made) (plays_quiet n events blank)).1
 
   new_stands : (count : ℕ) (d b : Device) (k : ℕ) → AreCreated program count d b
-      → AllStand program (new_firsts program) (scene_of (new_workers count) b k) (all_created program)
+      → AllStand program (new_firsts program) (scene_of (new_workers count) b k)
+      (all_created program)
   new_stands count d b k is j less =
       let shown : ShowsPlayed events [] blank (own program j b) =
       laws.created (sizes_of program) program.digest count d b is j

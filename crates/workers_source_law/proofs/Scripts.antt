@@ -30,6 +30,7 @@ start_words worker (script.Stop left) words = tt
 start_words worker (script.Fault at) words = tt
 start_words worker (script.Power choice) words = tt
 start_words worker script.Show words = tt
+start_words worker script.ShowDead words = tt
 start_words worker script.Last words = tt
 
 called_words : (worker : ℕ) (o : Option Command) → IfSome o session.IsWordCommand
@@ -68,6 +69,7 @@ power_words (script.Stop left) = tt
 power_words (script.Fault at) = tt
 power_words (script.Power choice) = tt
 power_words script.Show = tt
+power_words script.ShowDead = tt
 power_words script.Last = tt
 
 powered_words : (o : Option Command) → AreWordy (option_and_then power_with o)
