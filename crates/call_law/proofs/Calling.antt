@@ -1,7 +1,7 @@
 -- A call that the clause `source` holds of is a run as its user sees it, or the first part of one.
-use Rattle.std.proofs.Common.{◌≡◌, inl, inr, ℕ, Bool, true, false, List, [], ◌∷◌, ◌++◌}
+use Rattle.std.proofs.Common.{◌≡◌, ◌⊎◌, inl, inr, ℕ, Bool, true, false, List, [], ◌∷◌, ◌++◌}
 use Rattle.std.proofs.Common.{Option, Some, None, Ok, refl, sym, ap, ◌∙◌, subst}
-use Rattle.std.specs.Prelude.{flat_map}
+use Rattle.std.specs.Prelude.{flat_map, ⊤}
 use Rattle.std.specs.List.{AllByRecursion}
 use Rattle.std.specs.Io.KnownBytes.{Appends}
 use Rattle.pmem.specs.Device.{Device}
@@ -19,53 +19,91 @@ use Rattle.session_law.proofs.Scripts.{script_words}
 use Rattle.user_law.specs.Run.{TextMeaning, IsUserRun}
 use Rattle.text_law.specs.Law.{IsOfText}
 use Rattle.text_law.proofs.Meaning.{seen_on, run_law}
+use Rattle.session_run.specs.declared.status.Status.{Status}
 use Rattle.session_run.specs.declared.status.Status.TheVariants as status
+use Rattle.session_run.specs.Strict.{IsAnswered, strict_status}
 use Rattle.cnvm_compile.specs.declared.asked.Asked.{Asked}
 use Rattle.cnvm_compile.specs.declared.compiling.Compiled.{Compiled}
 use Rattle.cnvm_compile.specs.Compilation.{IsCompiled}
 use Rattle.cnvm_cli.specs.declared.refused.Refused.{Refused}
 use Rattle.cnvm_cli.specs.declared.refused.Refused.TheVariants as refused
-use Rattle.cnvm_cli.specs.Meant.{text_of, Fresh, MeansAll, MeansPart, JobMeant}
+use Rattle.cnvm_cli.specs.Meant.{text_of, Fresh, RanAll, MeansAll, MeansPart, MeantAs, JobMeant}
+use Rattle.cnvm_cli.specs.Meant.{RunMeant}
 use Rattle.cnvm_cli.specs.RefusalText.{refusal_status, has_line}
 use Rattle.cnvm_cli.specs.Run.{ToldAs, RefusedAs}
-use Rattle.cnvm_cli.specs.Verdict.{OfBytes, asked_by, TextsGive}
-use Rattle.cnvm_cli.specs.World.{Outside}
+use Rattle.cnvm_cli.specs.Verdict.{OfBytes, asked_by, TextsGive, TextsRefuse}
+use Rattle.cnvm_cli.specs.World.{Sources, Outside}
+use Rattle.cnvm_cli.proofs.Statuses.{strict_or, strict_same}
 use Rattle.call_law.specs.Call.{IsUserCall, IsUserPart}
-use Rattle.call_law.specs.Law.{IsTextMeaning, UserCallLaw, UserPartLaw}
+use Rattle.call_law.specs.Law.{IsTextMeaning, ByMeaning, UserCallLaw, UserPartLaw}
 use Rattle.call_law.proofs.Compiling.{of_text, pool_made}
 
--- no refusal has status 0
-not_done : (why : Refused) → status.Done ≡ refusal_status why → ⊥
-not_done refused.Usage e = cc
-not_done refused.LongProgram e = cc
-not_done (refused.Program line complaint) e = cc
-not_done refused.LongScript e = cc
-not_done (refused.Script number) e = cc
-not_done (refused.Image (image.Short found needed)) e = cc
-not_done (refused.Image (image.Magic found wanted)) e = cc
-not_done (refused.Image (image.Version found wanted)) e = cc
-not_done (refused.Image (image.Sizes found wanted)) e = cc
-not_done (refused.Image (image.Digest found wanted)) e = cc
-not_done (refused.Image (image.Content word value)) e = cc
-not_done (refused.Image image.NoMemory) e = cc
-not_done refused.Busy e = cc
-not_done refused.ReadFault e = cc
-not_done refused.NoMemory e = cc
+-- the statuses with which all commands are answered
+abbrev AnswersAll : Status → Type 0
+AnswersAll status.Done = ⊤
+AnswersAll status.Unmet = ⊤
+AnswersAll _ = ⊥
 
-other_status : status.Done ≡ status.NoMemory → ⊥
-other_status e = cc
+answers_all : (s : Status) → IsAnswered s → AnswersAll s
+answers_all s (inl done) = subst AnswersAll (sym done) tt
+answers_all s (inr unmet) = subst AnswersAll (sym unmet) tt
 
-other_fault : status.Done ≡ status.WriteFault → ⊥
-other_fault e = cc
+-- a refusal has none of them
+not_answered : (why : Refused) → AnswersAll (refusal_status why) → ⊥
+not_answered refused.Usage all = all
+not_answered refused.LongProgram all = all
+not_answered (refused.Program line complaint) all = all
+not_answered refused.LongScript all = all
+not_answered (refused.Script number) all = all
+not_answered (refused.Image (image.Short found needed)) all = all
+not_answered (refused.Image (image.Magic found wanted)) all = all
+not_answered (refused.Image (image.Version found wanted)) all = all
+not_answered (refused.Image (image.Sizes found wanted)) all = all
+not_answered (refused.Image (image.Digest found wanted)) all = all
+not_answered (refused.Image (image.Content word value)) all = all
+not_answered (refused.Image image.NoMemory) all = all
+not_answered refused.Busy all = all
+not_answered refused.ReadFault all = all
+not_answered refused.NoMemory all = all
 
-never_refused : (why : Refused) (w w' : Option (List ℕ)) → RefusedAs why status.Done w w' → ⊥
-never_refused why w w' told = by_line (has_line why) told
+never_refused : (why : Refused) (s : Status) (w w' : Option (List ℕ)) → AnswersAll s
+    → RefusedAs why s w w' → ⊥
+never_refused why s w w' all told = by_line (has_line why) told
   where
-    by_line : (b : Bool) → ToldAs b why status.Done w w' → ⊥
-    by_line true (inl due) = not_done why due.0
-    by_line true (inr (inl none)) = other_status none.0
-    by_line true (inr (inr part)) = other_fault part.0
-    by_line false told = not_done why told.0
+    by_line : (b : Bool) → ToldAs b why s w w' → ⊥
+    by_line true (inl due) = not_answered why (subst AnswersAll due.0 all)
+    by_line true (inr (inl none)) = subst AnswersAll none.0 all
+    by_line true (inr (inr part)) = subst AnswersAll part.0 all
+    by_line false told = not_answered why (subst AnswersAll told.0 all)
+
+-- all commands of the run itself are answered, whether it was strict or not
+strict_all : (strict : Bool) (ran result : Status) → result ≡ strict_status strict ran
+    → AnswersAll result → AnswersAll ran
+strict_all strict ran result is all = by_case (strict_or strict ran)
+  where
+    by_case : (strict_status strict ran ≡ ran)
+        ⊎ ((strict_status strict ran ≡ status.Done) × (ran ≡ status.Unmet)) → AnswersAll ran
+    by_case (inl same) = subst AnswersAll (is ∙ same) all
+    by_case (inr (done, unmet)) = subst AnswersAll (sym unmet) tt
+
+write_undone : status.WriteFault ≡ status.Done → ⊥
+write_undone e = cc
+
+-- what such a status says of a run
+means_all : (program : Program) (commands : List Command) (s : Status) (w w' : Option (List ℕ))
+    (d d' : Device) (k k' : ℕ) → AnswersAll s → MeantAs program commands s w w' d d' k k'
+    → (unmet : Bool) × MeansAll program commands unmet w w' d d' k k'
+means_all program commands status.Done w w' d d' k k' all means = (false, means)
+means_all program commands status.Unmet w w' d d' k k' all means = (true, means)
+means_all program commands status.NoMemory w w' d d' k k' all means = absurd all
+means_all program commands status.Usage w w' d d' k k' all means = absurd all
+means_all program commands status.Program w w' d d' k k' all means = absurd all
+means_all program commands status.Script w w' d d' k k' all means = absurd all
+means_all program commands status.ReadFault w w' d d' k k' all means = absurd all
+means_all program commands status.WriteFault w w' d d' k k' all means = absurd all
+means_all program commands status.DeviceFault w w' d d' k k' all means = absurd all
+means_all program commands status.Image w w' d d' k k' all means = absurd all
+means_all program commands status.PoolBusy w w' d d' k k' all means = absurd all
 
 -- what holds of a source's bytes, by what held
 of_bytes : {P Q : List ℕ → Type 0} (o : Option (List ℕ)) → OfBytes o P
@@ -97,11 +135,12 @@ module _ (asked : Asked) (text script : List ℕ) (compiled : Compiled)
   of : IsOfText text program program
   of = of_text text asked asked compiled compiled is is
 
-  whole : MeansAll program commands before.out after.out before.dev after.dev before.steps
-      after.steps → IsUserCall asked text script meaning before after
-  whole r =
+  whole : (unmet : Bool) → MeansAll program commands unmet before.out after.out before.dev after.dev
+      before.steps after.steps → IsUserCall asked text script meaning before after
+  whole unmet r =
       let b : Device = r.0 in
-      let all = r.3 in
+      let all : RanAll program (super_words program) commands (fresh_moment program b before.steps)
+      before.out after.out after.dev after.steps = r.3.0 in
       record {
         sizes = sizes_of program;
         made = b;
@@ -154,22 +193,30 @@ module _ (asked : Asked) (text script : List ℕ) (compiled : Compiled)
       }
 
 pub call_law : UserCallLaw
-call_law p s slots records ticks told before after (inl refusal) =
-    absurd (never_refused refusal.0 before.out after.out refusal.2)
-call_law p s slots records ticks told before after (inr ran) =
+call_law p s slots records ticks strict told result before after answered (ended, is, inl refusal) =
+    absurd (never_refused refusal.0 ended before.out after.out
+    (strict_all strict ended result is (answers_all result answered)) refusal.2)
+call_law p s slots records ticks strict told result before after answered (ended, is, inr ran) =
     let asked : Asked = asked_by slots records ticks in
     let gives : TextsGive asked told.program told.script ran.0 ran.1 = ran.2 in
-    let job : JobMeant false Fresh ran.0.program ran.1 status.Done before after = ran.3 in
+    let job : JobMeant false Fresh ran.0.program ran.1 ended before after = ran.3 in
+    let all = means_all ran.0.program ran.1 ended before.out after.out before.dev after.dev
+    before.steps after.steps (strict_all strict ended result is (answers_all result answered))
+    job.0 in
     of_bytes told.program gives.0 (λ text is. (
       (ran.0, is),
       of_bytes told.script gives.1 (λ script has meaning means.
-          whole asked text script ran.0 is ran.1 has.1 meaning means before after job.0),
+          whole asked text script ran.0 is ran.1 has.1 meaning means before after all.0 all.1),
     ))
 
-pub part_law : UserPartLaw
-part_law p s slots records ticks told before after (inl refusal) = inl (refusal.0, refusal.1)
-part_law p s slots records ticks told before after (inr ran) =
-    let asked : Asked = asked_by slots records ticks in
+-- where the writing failed
+part_of : (asked : Asked) (told : Sources) (before after : Outside)
+    → RunMeant asked told false false status.WriteFault before after
+    → ((why : Refused) × TextsRefuse asked told.program told.script why)
+    ⊎ ByMeaning asked told.program told.script
+    (λ text script meaning. IsUserPart asked text script meaning before after)
+part_of asked told before after (inl refusal) = inl (refusal.0, refusal.1)
+part_of asked told before after (inr ran) =
     let gives : TextsGive asked told.program told.script ran.0 ran.1 = ran.2 in
     let job : JobMeant false Fresh ran.0.program ran.1 status.WriteFault before after = ran.3 in
     inr (of_bytes told.program gives.0 (λ text is. (
@@ -177,3 +224,9 @@ part_law p s slots records ticks told before after (inr ran) =
       of_bytes told.script gives.1 (λ script has meaning means.
           some asked text script ran.0 is ran.1 has.1 meaning means before after job.0),
     )))
+
+pub part_law : UserPartLaw
+part_law p s slots records ticks strict told before after (ran, is, means) =
+    part_of (asked_by slots records ticks) told before after
+    (subst (λ (t : Status). RunMeant (asked_by slots records ticks) told false false t before after)
+    (strict_same strict ran status.WriteFault is write_undone) means)

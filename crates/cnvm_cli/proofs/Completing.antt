@@ -64,7 +64,8 @@ use Rattle.cnvm_cli.specs.Complete.{HasProgram, HasScript, HasLines, HasImage, I
 use Rattle.cnvm_cli.specs.Complete.{IsPlanServed, IsServed, IsRefusalStatus}
 use Rattle.cnvm_cli.specs.Serve.{StatusOf}
 use Rattle.cnvm_cli.specs.inside.ServeEnds.{MemoryEnds}
-use Rattle.cnvm_cli.proofs.Statuses.{status_kept}
+use Rattle.cnvm_cli.proofs.Statuses.{status_kept, strict_refusal}
+use Rattle.session_run.specs.AsStatus.{met}
 
 not_true : (let a : Bool = true in let b : Bool = false in a ≡ b) → ⊥
 not_true is = cc
@@ -186,10 +187,10 @@ image_quiet program bytes is refused.LongScript told = absurd told
 image_quiet program bytes is (refused.Script number) told = absurd told
 image_quiet program bytes is refused.Busy told = absurd told
 
-tells_kept : (line : List ℕ) (result : Status) (w w' : Option (List ℕ))
-    → TellsAs status.Done line result w w' → IsRefusalStatus result → ⊥
-tells_kept line result w w' tells refuses =
-    ⊎_elim (λ all. subst (λ (s : Status). IsRefusalStatus s) all.0 refuses)
+tells_kept : (due : Status) (line : List ℕ) (result : Status) (w w' : Option (List ℕ))
+    → (IsRefusalStatus due → ⊥) → TellsAs due line result w w' → IsRefusalStatus result → ⊥
+tells_kept due line result w w' kept tells refuses =
+    ⊎_elim (λ all. kept (subst (λ (s : Status). IsRefusalStatus s) all.0 refuses))
     (⊎_elim (λ none. subst (λ (s : Status). IsRefusalStatus s) none.0 refuses)
     (λ part. subst (λ (s : Status). IsRefusalStatus s) part.0 refuses))
     tells
@@ -198,7 +199,9 @@ tells_kept line result w w' tells refuses =
 saved_kept : (ran result : Status) (o o' : Option (List ℕ)) (d d' : Device)
     → (IsRefusalStatus ran → ⊥) → SavedAs ran result o o' d d' → IsRefusalStatus result → ⊥
 saved_kept status.Done result o o' d d' kept saved refuses =
-    tells_kept _ result o o' saved.1 refuses
+    tells_kept status.Done _ result o o' kept saved.1 refuses
+saved_kept status.Unmet result o o' d d' kept saved refuses =
+    tells_kept status.Unmet _ result o o' kept saved.1 refuses
 saved_kept status.NoMemory result o o' d d' kept saved refuses =
     subst (λ (s : Status). IsRefusalStatus s) saved.0 refuses
 saved_kept status.Usage result o o' d d' kept saved refuses = kept tt
@@ -218,7 +221,8 @@ created_kept : (result : Status) (program : Program) (commands : List Command)
     → RanAs program commands result w w' d d' k k' → IsRefusalStatus result → ⊥
 created_kept result program commands w w' d d' k k' =
     status_kept (λ why. Uncreated program why w w' d d' k k')
-    (CreatedPart program commands w w' d d' k k') (CreatedAll program commands w w' d d' k k')
+    (CreatedPart program commands w w' d d' k k')
+    (λ unmet. CreatedAll program commands unmet w w' d d' k k')
     (CreatedPart program commands w w' d d' k k') result
 
 opened_kept : (result : Status) (program : Program) (commands : List Command) (words : List ℤ)
@@ -227,7 +231,7 @@ opened_kept : (result : Status) (program : Program) (commands : List Command) (w
 opened_kept result program commands words w w' d d' k k' =
     status_kept (λ why. Unopened program words why w w' d d' k k')
     (OpensPart program commands words w w' d d' k k')
-    (OpensAll program commands words w w' d d' k k')
+    (λ unmet. OpensAll program commands words unmet w w' d d' k k')
     (OpensPart program commands words w w' d d' k k') result
 
 stormed_kept : (result : Status) (program : Program) (order : StormOrder) (w w' : Option (List ℕ))
@@ -236,13 +240,13 @@ stormed_kept : (result : Status) (program : Program) (order : StormOrder) (w w' 
 stormed_kept result program order w w' d d' k k' =
     status_kept (λ why. Uncreated program why w w' d d' k k')
     (StormedStarved program order w w' d d' k k')
-    (StormedAll program order w w' d d' k k')
+    (λ unmet. StormedAll program order unmet w w' d d' k k')
     (StormedPart program order w w' d d' k k') result
 
 written_kept : (text : List ℕ) (result : Status) (w w' : Option (List ℕ))
     → WrittenAs text result w w' → IsRefusalStatus result → ⊥
 written_kept text result w w' =
-    status_kept (λ why. ⊥) (Keeps w w') (Appends w w' text) (AppendsPart w w' text) result
+    status_kept (λ why. ⊥) (Keeps w w') (met (Appends w w' text)) (AppendsPart w w' text) result
 
 -- the pool's image, if there is one, is accepted
 abbrev StartIs : Program → Start → Type 0
@@ -352,7 +356,7 @@ workers_ran_kept : (result : Status) (program : Program) (count : ℕ)
 workers_ran_kept result program count commands w w' d d' k k' =
     status_kept (λ why. Unbegun (make_fault why) program count w w' d d' k k')
     (BreaksOffNew program count commands w w' d d' k k')
-    (RunsNew program count commands w w' d d' k k')
+    (met (RunsNew program count commands w w' d d' k k'))
     (BreaksOffNew program count commands w w' d d' k k') result
 
 workers_kept : (asked : Asked) (count : ℕ) (p s : Option (List ℕ)) (result : Status)
@@ -424,11 +428,13 @@ serve_kept asked told result w w' d d' k k' program has
 plan_kept : (asked : Plan) (told : Sources) (result : Status) (before after : Outside)
     → IsPlanServed asked told
     → PlanEnds asked told result before after → IsRefusalStatus result → ⊥
-plan_kept (plan.Run p s slots records ticks from save) told result before after has ends refuses =
+plan_kept (plan.Run p s slots records ticks from save strict) told result before after has ends
+    refuses =
     run_kept (asked_by slots records ticks) told.program told.former told.script told.image
-    told.rest (is_some from) (is_some save) result before after has ends refuses
-plan_kept (plan.RunPool p s slots records ticks pool former) told result before after has ends
-    refuses = has
+    told.rest (is_some from) (is_some save) ends.0 before after has ends.2
+    (strict_refusal strict ends.0 result ends.1 refuses)
+plan_kept (plan.RunPool p s slots records ticks pool former strict) told result before after has
+    ends refuses = has
 plan_kept (plan.Serve p slots records ticks) told result before after has ends refuses =
     serve_kept (asked_by slots records ticks) told result before.out after.out before.dev after.dev
     before.steps after.steps has.0 has.1 ends.0 refuses
@@ -436,9 +442,9 @@ plan_kept (plan.ServePool p slots records ticks pool former) told result before 
     refuses = has
 plan_kept (plan.List p) told result before after has ends refuses =
     list_kept told.program result before.out after.out has ends.0 refuses
-plan_kept (plan.Storm p start count reach slots records ticks) told result before after has
+plan_kept (plan.Storm p start count reach plain slots records ticks) told result before after has
     ends refuses =
-    storm_kept (asked_by slots records ticks) (ordered start count reach) told.program
+    storm_kept (asked_by slots records ticks) (ordered start count reach plain) told.program
     result before.out after.out before.dev
     after.dev before.steps after.steps has ends.0 refuses
 plan_kept (plan.Why p) told result before after has ends refuses =

@@ -41,6 +41,7 @@ use Rattle.cnvm_cli.specs.Verdict.{Grammar, ProgramRefuses, RefuseIn, asked_by}
 use Rattle.cnvm_cli.specs.WhyEnds.{WhyEnds}
 use Rattle.cnvm_cli.specs.WorkersMeant.{WorkersMeant}
 use Rattle.cnvm_cli.specs.World.{Sources, Outside}
+use Rattle.cnvm_cli.proofs.Statuses.{strict_device}
 
 -- the device shows that no fault is armed
 abbrev pub IsFaultless : Device → Type 0
@@ -132,6 +133,8 @@ saved_ran : (ran : Status) (o o' : Option (List ℕ)) (d d' : Device)
     → SavedAs ran status.DeviceFault o o' d d' → ran ≡ status.DeviceFault
 saved_ran status.Done o o' d d' saved =
     absurd (tells_never status.Done _ o o' (λ e. cc) saved.1)
+saved_ran status.Unmet o o' d d' saved =
+    absurd (tells_never status.Unmet _ o o' (λ e. cc) saved.1)
 saved_ran status.NoMemory o o' d d' saved = sym saved.0
 saved_ran status.Usage o o' d d' saved = sym saved.0
 saved_ran status.Program o o' d d' saved = sym saved.0
@@ -229,18 +232,21 @@ serve_never asked told before after none (inr (compiled, is, r, w, status, never
 
 plan_never : (asked : Plan) (told : Sources) (before after : Outside) → IsFaultless before.dev
     → PlanMeant asked told status.DeviceFault before after → HasPool (Some asked)
-plan_never (plan.Run p s slots records ticks from save) told before after none meant =
+plan_never (plan.Run p s slots records ticks from save strict) told before after none meant =
     absurd (run_never (asked_by slots records ticks) told (is_some from) (is_some save) before after
-    none meant)
-plan_never (plan.RunPool p s slots records ticks pool former) told before after none meant = tt
+    none
+    (subst (λ (s : Status). RunMeant (asked_by slots records ticks) told (is_some from)
+    (is_some save) s before after) (strict_device strict meant.0 meant.1) meant.2))
+plan_never (plan.RunPool p s slots records ticks pool former strict) told before after none meant =
+    tt
 plan_never (plan.Serve p slots records ticks) told before after none meant =
     absurd (serve_never (asked_by slots records ticks) told before after none meant.0)
 plan_never (plan.ServePool p slots records ticks pool former) told before after none meant = tt
 plan_never (plan.List p) told before after none meant =
     absurd (list_never told.program before.out after.out meant.0)
-plan_never (plan.Storm p start count reach slots records ticks) told before after none meant =
-    absurd (storm_never (asked_by slots records ticks) (ordered start count reach) told.program
-    before.out after.out before.dev after.dev before.steps after.steps none meant.0)
+plan_never (plan.Storm p start count reach plain slots records ticks) told before after none meant =
+    absurd (storm_never (asked_by slots records ticks) (ordered start count reach plain)
+    told.program before.out after.out before.dev after.dev before.steps after.steps none meant.0)
 plan_never (plan.Why p) told before after none meant =
     absurd (why_never told.program before.out after.out meant.0)
 plan_never (plan.Workers p s workers slots records ticks) told before after none meant =

@@ -1,6 +1,6 @@
 -- A run means what its program's source says.
 use Rattle.std.proofs.Common.{◌≡◌, ℕ, ℤ, List, [], ◌∷◌, Bool, true, false, Option, Some, None}
-use Rattle.std.proofs.Common.{is_some, inl, inr, append-nil, refl, sym, ap, subst}
+use Rattle.std.proofs.Common.{is_some, inl, inr, append-nil, refl, sym, ap, subst, ◌||◌, ◌∙◌}
 use Rattle.std.specs.List.{AllByRecursion}
 use Rattle.std.specs.Io.KnownBytes.{Appends, Keeps}
 use Rattle.nvm_base.proofs.Pieces.{appends_more}
@@ -39,6 +39,8 @@ use Rattle.session_run.specs.Made.{Uncreated}
 use Rattle.session_run.specs.Commands.{RunsAndWrites, RunsPart, CreatedAll, CreatedPart, RanAs}
 use Rattle.cnvm_cli.specs.World.{Sources, Outside, IsUntouched}
 use Rattle.cnvm_cli.specs.Meant.{Start, Fresh, FromImage, start_if, text_of, RanAll, RanPart}
+use Rattle.cnvm_cli.specs.Meant.{RanWith}
+use Rattle.session_run.specs.Strict.{is_refused, any_refused}
 use Rattle.cnvm_cli.specs.Meant.{MeansAll, MeansPart, MeantAs, OpensMeant, OpenMeansPart}
 use Rattle.cnvm_cli.specs.Meant.{OpenedMeantAs, StartMeant, JobMeant, RunMeant, PlanMeant}
 use Rattle.cnvm_cli.specs.Meant.{CallMeant}
@@ -47,7 +49,7 @@ use Rattle.session_run.specs.Commands as cli
 use Rattle.cnvm_cli.proofs.Moments.{next_to, opened_to}
 use Rattle.cnvm_cli.proofs.ServeMeaning.{memory_served}
 use Rattle.cnvm_cli.proofs.Sources.{known_bytes}
-use Rattle.cnvm_cli.proofs.Statuses.{status_map}
+use Rattle.cnvm_cli.proofs.Statuses.{status_map, strict_memory}
 use Rattle.cnvm_cli.proofs.StormMeaning.{storm_meant}
 use Rattle.cnvm_cli.proofs.WorkersMeaning.{workers_meant}
 
@@ -59,35 +61,66 @@ none_written w w' is = subst (λ (v : Option (List ℕ)). Appends w v []) (sym i
     same None = tt
     same (Some bytes) = sym (append-nil bytes)
 
+or_none : (a : Bool) → (a || false) ≡ a
+or_none true = refl
+or_none false = refl
+
+or_more : (a b c : Bool) → ((a || b) || c) ≡ (a || (b || c))
+or_more true b c = refl
+or_more false b c = refl
+
 module _ (program : Program) (super : Words)
     (agrees : Agrees program) where
-  pub run_all : (commands : List Command) → AllByRecursion IsWordCommand commands →
-      (x : Moment) (d' : Device) (w w' : Option (List ℕ)) (k' : ℕ) →
+  -- from whether an answer was refused to whether one is
+  abbrev RanFrom : List Command → Moment → (u u' : Bool) → Option (List ℕ) → Option (List ℕ)
+      → Device → ℕ → Type 0
+  RanFrom commands x u u' w w' d' k' =
+      (all : RanAll program super commands x w w' d' k')
+      × (u' ≡ (u || any_refused all.answers))
+
+  run_from : (commands : List Command) → AllByRecursion IsWordCommand commands →
+      (x : Moment) (d' : Device) (w w' : Option (List ℕ)) (k' : ℕ) (u u' : Bool) →
       Holds program super x.mode x.device x.state
-      → RunsAndWrites program commands x.mode x.device w x.steps d' w' k' →
-      RanAll program super commands x w w' d' k'
-  run_all [] words x d' w w' k' holds r =
-      record {
-        answers = [];
-        last = x;
-        ran = refl;
-        device = sym r.0;
-        steps = sym r.2;
-        written = none_written w w' r.1;
-      }
-  run_all (c ∷ commands) words x d' w w' k' holds r =
+      → RunsAndWrites program commands x.mode x.device w x.steps u d' w' k' u' →
+      RanFrom commands x u u' w w' d' k'
+  run_from [] words x d' w w' k' u u' holds r = (
+    record {
+      answers = [];
+      last = x;
+      ran = refl;
+      device = sym r.0;
+      steps = sym r.2;
+      written = none_written w w' r.1;
+    },
+    r.3 ∙ sym (or_none u),
+  )
+  run_from (c ∷ commands) words x d' w w' k' u u' holds r =
       let one = steps_on each_command program super agrees c x r.0 r.1 r.2 r.4 words.0
       holds r.5 in
       let y : Moment = next_to program c x r.0 r.1 r.2 r.4 one.0 in
-      let rest = run_all commands words.1 y d' r.3 w' k' one.1.holds r.7 in
-      record {
-        answers = r.0 ∷ rest.answers;
-        last = rest.last;
-        ran = (y, one.1, rest.ran);
-        device = rest.device;
-        steps = rest.steps;
-        written = appends_more w r.3 w' (answer_text r.0) (text_of rest.answers) r.6 rest.written;
-      }
+      let more = run_from commands words.1 y d' r.3 w' k' (u || is_refused r.0) u' one.1.holds r.7
+      in
+      let rest : RanAll program super commands y r.3 w' d' k' = more.0 in (
+        record {
+          answers = r.0 ∷ rest.answers;
+          last = rest.last;
+          ran = (y, one.1, rest.ran);
+          device = rest.device;
+          steps = rest.steps;
+          written =
+              appends_more w r.3 w' (answer_text r.0) (text_of rest.answers) r.6 rest.written;
+        },
+        more.1 ∙ or_more u (is_refused r.0) (any_refused rest.answers),
+      )
+
+  -- all commands of a run
+  pub run_all : (commands : List Command) → AllByRecursion IsWordCommand commands →
+      (x : Moment) (d' : Device) (w w' : Option (List ℕ)) (k' : ℕ) (unmet : Bool) →
+      Holds program super x.mode x.device x.state
+      → RunsAndWrites program commands x.mode x.device w x.steps false d' w' k' unmet →
+      RanWith program super commands x unmet w w' d' k'
+  run_all commands words x d' w w' k' unmet holds r =
+      run_from commands words x d' w w' k' false unmet holds r
 
   pub run_part : (commands : List Command) → AllByRecursion IsWordCommand commands →
       (x : Moment) (d' : Device) (w w' : Option (List ℕ)) (k' : ℕ) →
@@ -141,16 +174,16 @@ module _ (program : Program) (super : Words)
 
 module _ (program : Program) (agrees : Agrees program)
     (commands : List Command) (words : AllByRecursion IsWordCommand commands) where
-  created_all : (w w' : Option (List ℕ)) (d d' : Device) (k k' : ℕ) →
-      CreatedAll program commands w w' d d' k k' →
-      MeansAll program commands w w' d d' k k'
-  created_all w w' d d' k k' r =
+  created_all : (w w' : Option (List ℕ)) (d d' : Device) (k k' : ℕ) (unmet : Bool) →
+      CreatedAll program commands unmet w w' d d' k k' →
+      MeansAll program commands unmet w w' d d' k k'
+  created_all w w' d d' k k' unmet r =
       let holds = created_rests program d r.0 r.1 in (
         r.0,
         r.1,
         holds,
         run_all program (super_words program) agrees commands words
-            (fresh_moment program r.0 k) d' w w' k' holds r.2,
+            (fresh_moment program r.0 k) d' w w' k' unmet holds r.2,
       )
 
   created_part : (w w' : Option (List ℕ)) (d d' : Device) (k k' : ℕ) →
@@ -173,10 +206,10 @@ module _ (program : Program) (agrees : Agrees program)
       (created_all w w' d d' k k') (created_part w w' d d' k k') result r
 
   opens_meant : (words : List ℤ) → AreWords words → IsOpened (wanted_of program) words →
-      (w w' : Option (List ℕ)) (d d' : Device) (k k' : ℕ) →
-      OpensAll program commands words w w' d d' k k' →
-      OpensMeant program commands words w w' d d' k k'
-  opens_meant list are opened w w' d d' k k' r =
+      (w w' : Option (List ℕ)) (d d' : Device) (k k' : ℕ) (unmet : Bool) →
+      OpensAll program commands words unmet w w' d d' k k' →
+      OpensMeant program commands words unmet w w' d d' k k'
+  opens_meant list are opened w w' d d' k k' unmet r =
       let first = open_step opened_answers program list r.1 d r.2 r.0 k r.4 agrees are
       opened r.5 in
       let x : Moment = opened_to program list r.0 r.1 r.2 r.4 first.0 in (
@@ -186,7 +219,7 @@ module _ (program : Program) (agrees : Agrees program)
         first.1,
         r.6,
         run_all program (image_words list) agrees commands words x
-            d' r.3 w' k' first.1.holds r.7,
+            d' r.3 w' k' unmet first.1.holds r.7,
       )
 
   part_meant : (words : List ℤ) → AreWords words → IsOpened (wanted_of program) words →
@@ -272,19 +305,24 @@ run_meant asked told opens saves result before after (inr ran) =
 
 plan_meant : (asked : Plan) (told : Sources) (result : Status) (before after : Outside)
     → PlanEnds asked told result before after → PlanMeant asked told result before after
-plan_meant (plan.Run p s slots records ticks from save) told result before after ends =
-    run_meant (asked_by slots records ticks) told (is_some from) (is_some save) result before
-    after ends
-plan_meant (plan.RunPool p s slots records ticks pool former) told result before after ends = ends
+plan_meant (plan.Run p s slots records ticks from save strict) told result before after ends = (
+  ends.0,
+  ends.1,
+  run_meant (asked_by slots records ticks) told (is_some from) (is_some save) ends.0 before after
+      ends.2,
+)
+plan_meant (plan.RunPool p s slots records ticks pool former strict) told result before after ends =
+    ends
 plan_meant (plan.Serve p slots records ticks) told result before after ends =
     (memory_served (asked_by slots records ticks) told result before after ends.0, ends.1)
 plan_meant (plan.ServePool p slots records ticks pool former) told result before after ends = ends
 plan_meant (plan.List p) told result before after ends = ends
-plan_meant (plan.Storm p start count reach slots records ticks) told result before after ends = (
-  storm_meant (asked_by slots records ticks) (ordered start count reach) told.program result
-      before.out after.out before.dev after.dev before.steps after.steps ends.0,
-  ends.1,
-)
+plan_meant (plan.Storm p start count reach plain slots records ticks) told result before after
+    ends = (
+      storm_meant (asked_by slots records ticks) (ordered start count reach plain) told.program result
+          before.out after.out before.dev after.dev before.steps after.steps ends.0,
+      ends.1,
+    )
 plan_meant (plan.Why p) told result before after ends = ends
 plan_meant (plan.Workers p s workers slots records ticks) told result before after ends = (
   workers_meant (asked_by slots records ticks) workers told.program told.script result before.out
@@ -309,18 +347,19 @@ pub memory_meant : (words : Option Plan) (told : Sources) (before after : Outsid
     Keeps before.out after.out → IsUntouched before after →
     CallMeant words told status.NoMemory before after
 memory_meant None told before after keeps same = (inr (inl (refl, keeps)), same)
-memory_meant (Some (plan.Run p s slots records ticks from save)) told before after keeps same =
-    inl (refused.NoMemory, inl tt, (refl, keeps), same)
-memory_meant (Some (plan.RunPool p s slots records ticks pool former)) told before after keeps
-    same = (same.0, same.1)
+memory_meant (Some (plan.Run p s slots records ticks from save strict)) told before after keeps
+    same =
+    (status.NoMemory, strict_memory strict, inl (refused.NoMemory, inl tt, (refl, keeps), same))
+memory_meant (Some (plan.RunPool p s slots records ticks pool former strict)) told before after
+    keeps same = (same.0, same.1)
 memory_meant (Some (plan.Serve p slots records ticks)) told before after keeps same =
     (inl (refused.NoMemory, tt, (refl, keeps), same.1, same.2), same.0)
 memory_meant (Some (plan.ServePool p slots records ticks pool former)) told before after keeps
     same = (same.0, same.1)
 memory_meant (Some (plan.List p)) told before after keeps same =
     (inl (refused.NoMemory, tt, (refl, keeps)), same)
-memory_meant (Some (plan.Storm p start count reach slots records ticks)) told before after keeps
-    same =
+memory_meant (Some (plan.Storm p start count reach plain slots records ticks)) told before after
+    keeps same =
     (inl (refused.NoMemory, tt, (refl, keeps), same.1, same.2), same.0)
 memory_meant (Some (plan.Why p)) told before after keeps same =
     (inl (refused.NoMemory, tt, (refl, keeps)), same)

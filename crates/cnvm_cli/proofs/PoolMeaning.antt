@@ -1,6 +1,7 @@
 -- A run on the pool of a file means what the source says.
-use Rattle.std.proofs.Common.{◌≡◌, inl, inr, List, [], ◌∷◌, ◌++◌, Option, Some, None, ℕ, zero, suc}
-use Rattle.std.proofs.Common.{◌*◌, ◌/◌, length, ℤ, Bool, is_some, subst, sym, refl, ap, ◌∙◌, arith}
+use Rattle.std.proofs.Common.{◌≡◌, ◌≢◌, inl, inr, List, [], ◌∷◌, ◌++◌, Option, Some, None, ℕ}
+use Rattle.std.proofs.Common.{◌*◌, ◌/◌, length, ℤ, Bool, true, false, is_some, subst, sym, refl}
+use Rattle.std.proofs.Common.{ap, ◌∙◌, arith, zero, suc}
 use Rattle.std.specs.List.{AllByRecursion}
 use Rattle.std.specs.Io.KnownBytes.{Keeps}
 use Rattle.cache_model.specs.Cache.{Words}
@@ -27,6 +28,10 @@ use Rattle.session_law.proofs.Scripts.{script_words}
 use Rattle.session_run.specs.declared.status.Status.{Status}
 use Rattle.session_run.specs.declared.status.Status.TheVariants as status
 use Rattle.session_run.specs.Held.{AnswersAs, FirstTold, RunsSome}
+use Rattle.session_run.specs.Commands.{RunsAndWrites}
+use Rattle.cnvm_session.specs.declared.mode.Mode.TheVariants.{Ready}
+use Rattle.file_pmem.specs.declared.link.MirrorState.TheVariants.{Awake}
+use Rattle.cnvm_cli.specs.Meant.{RanWith}
 use Rattle.session_run.specs.Made.{Created}
 use Rattle.cnvm_compile.specs.declared.asked.Asked.{Asked}
 use Rattle.cnvm_compile.specs.declared.compiling.Compiled.{Compiled}
@@ -48,6 +53,7 @@ use Rattle.cnvm_cli.proofs.Moments.{opened_to}
 use Rattle.cnvm_cli.proofs.MovedMeaning.{moves_meant}
 use Rattle.cnvm_cli.proofs.ServeMeaning.{file_served}
 use Rattle.cnvm_cli.proofs.Sources.{known_bytes}
+use Rattle.cnvm_cli.proofs.Statuses.{strict_memory}
 use Rattle.cnvm_cli.proofs.Taking.{taken_map}
 use Rattle.cnvm_cli.proofs.Usable.{sizes_same}
 
@@ -58,11 +64,13 @@ first_words [] rest words = tt
 first_words (c ∷ first) rest words = (words.0, first_words first rest words.1)
 
 -- what follows of each of four facts follows of what is told first
-told_map : {A P S B Q R : Option (List ℕ) → Type 0} → (none : Type 0)
-    → ((w : Option (List ℕ)) → A w → B w) → ((w : Option (List ℕ)) → P w → Q w)
+told_map : {A B : Bool → Option (List ℕ) → Type 0} {P S Q R : Option (List ℕ) → Type 0}
+    → (none : Type 0) → ((unmet : Bool) (w : Option (List ℕ)) → A unmet w → B unmet w)
+    → ((w : Option (List ℕ)) → P w → Q w)
     → ((w : Option (List ℕ)) → S w → R w) → (s : Status) (w w' : Option (List ℕ))
     → FirstTold A P S none s w w' → FirstTold B Q R none s w w'
-told_map none all part some status.Done w w' h = (h.0, h.1, all h.0 h.2)
+told_map none all part some status.Done w w' h = (h.0, h.1, all false h.0 h.2)
+told_map none all part some status.Unmet w w' h = (h.0, h.1, all true h.0 h.2)
 told_map none all part some status.NoMemory w w' h = (h.0, h.1, part h.0 h.2)
 told_map none all part some status.WriteFault w w' (inl h) = inl h
 told_map none all part some status.WriteFault w w' (inr h) = inr (h.0, h.1, part h.0 h.2)
@@ -78,16 +86,17 @@ module _ (program : Program) (agrees : Agrees program) (commands : List Command)
     (words : AllByRecursion IsWordCommand commands) where
   ran_some : (super : Words) (x : Moment) (w w' : Option (List ℕ)) (d' : Device) (k' : ℕ)
       → Holds program super x.mode x.device x.state
-      → RunsSome program commands x.mode x.device w x.steps d' w' k'
+      → RunsSome program commands x.mode x.device w x.steps false d' w' k'
       → RanSome program super commands x w w' d' k'
-  ran_some super x w w' d' k' holds r = (
-    r.0,
-    r.1,
-    r.2,
-    run_all program super agrees r.0
-        (first_words r.0 r.1 (subst (AllByRecursion IsWordCommand) r.2 words)) x d' w w' k' holds
-        r.3,
-  )
+  ran_some super x w w' d' k' holds r =
+      let chain = run_all program super agrees r.0
+      (first_words r.0 r.1 (subst (AllByRecursion IsWordCommand) r.2 words)) x d' w w' k' r.3 holds
+      r.4 in (
+        r.0,
+        r.1,
+        r.2,
+        chain.0,
+      )
 
   held_meant : (list : List ℤ) → AreWords list → IsOpened (wanted_of program) list
       → (result : Status) (before after : PoolSide)
@@ -125,20 +134,28 @@ module _ (program : Program) (agrees : Agrees program) (commands : List Command)
   new_meant result b before after created r =
       let holds = created_rests program before.held.device b created in
       let x : Moment = fresh_moment program b before.steps in
-      let super : Words = super_words program in (
+      let super : Words = super_words program in
+      let all : (unmet : Bool) (w : Option (List ℕ))
+      → RunsAndWrites program commands Ready b w before.steps false after.held.device after.out
+      after.steps unmet × (after.held.state ≡ Awake)
+      → RanWith program super commands x unmet w after.out after.held.device after.steps
+      × (after.held.state ≡ Awake) =
+      λ unmet w h. (
+        run_all program super agrees commands words x after.held.device w after.out after.steps
+            unmet holds h.0,
+        h.1,
+      ) in
+      let some : (w : Option (List ℕ))
+      → RunsSome program commands Ready b w before.steps false after.held.device after.out
+      after.steps × (after.held.state ≢ Awake)
+      → RanSome program super commands x w after.out after.held.device after.steps
+      × (after.held.state ≢ Awake) =
+      λ w h. (ran_some super x w after.out after.held.device after.steps holds h.0, h.1) in (
         holds,
-        told_map _
-            (λ w h. (
-              run_all program super agrees commands words x after.held.device w after.out
-                  after.steps holds h.0,
-              h.1,
-            ))
+        told_map _ all
             (λ w h. run_part program super agrees commands words x after.held.device w after.out
             after.steps holds h)
-            (λ w h. (
-              ran_some super x w after.out after.held.device after.steps holds h.0,
-              h.1,
-            ))
+            some
             result before.out after.out r,
       )
 
@@ -157,8 +174,13 @@ module _ (program : Program) (agrees : Agrees program) (commands : List Command)
       after.held.device y.steps after.steps
       → AnsweredMeant program super commands y result told after
   answered_meant super y status.Done told after holds (ran, awake) = (
-    run_all program super agrees commands words y after.held.device told after.out after.steps holds
-        ran,
+    run_all program super agrees commands words y after.held.device told after.out after.steps false
+        holds ran,
+    awake,
+  )
+  answered_meant super y status.Unmet told after holds (ran, awake) = (
+    run_all program super agrees commands words y after.held.device told after.out after.steps true
+        holds ran,
     awake,
   )
   answered_meant super y status.NoMemory told after holds ran =
@@ -262,14 +284,20 @@ file_meant asked moves told result before after (inr ran) =
 plan_on_file : (asked : Plan) (told : Sources) (result : Status) (before after : PoolSide)
     → PlanOnFileEnds asked told result before after
     → PlanOnFile (Some asked) told result before after
-plan_on_file (plan.Run p s slots records ticks from save) told result before after ends = ends
-plan_on_file (plan.RunPool p s slots records ticks pool former) told result before after ends =
-    file_meant (asked_by slots records ticks) (is_some former) told result before after ends
+plan_on_file (plan.Run p s slots records ticks from save strict) told result before after ends =
+    ends
+plan_on_file (plan.RunPool p s slots records ticks pool former strict) told result before after
+    ends = (
+      ends.0,
+      ends.1,
+      file_meant (asked_by slots records ticks) (is_some former) told ends.0 before after ends.2,
+    )
 plan_on_file (plan.Serve p slots records ticks) told result before after ends = ends
 plan_on_file (plan.ServePool p slots records ticks pool former) told result before after ends =
     file_served (asked_by slots records ticks) (is_some former) told result before after ends
 plan_on_file (plan.List p) told result before after ends = ends
-plan_on_file (plan.Storm p start count reach slots records ticks) told result before after ends =
+plan_on_file (plan.Storm p start count reach plain slots records ticks) told result before after
+    ends =
     ends
 plan_on_file (plan.Why p) told result before after ends = ends
 plan_on_file (plan.Workers p s workers slots records ticks) told result before after ends = ends
@@ -297,16 +325,18 @@ no_plan_on_file words told result before after is held found kept =
 memory_of_plan : (asked : Plan) (told : Sources) (before after : PoolSide)
     → Keeps before.out after.out → IsUnrun before after
     → PlanOnFile (Some asked) told status.NoMemory before after
-memory_of_plan (plan.Run p s slots records ticks from save) told before after keeps same =
+memory_of_plan (plan.Run p s slots records ticks from save strict) told before after keeps same =
     (same.held, same.found)
-memory_of_plan (plan.RunPool p s slots records ticks pool former) told before after keeps same =
-    inl (refused.NoMemory, inl tt, (refl, keeps), same)
+memory_of_plan (plan.RunPool p s slots records ticks pool former strict) told before after keeps
+    same =
+    (status.NoMemory, strict_memory strict, inl (refused.NoMemory, inl tt, (refl, keeps), same))
 memory_of_plan (plan.Serve p slots records ticks) told before after keeps same =
     (same.held, same.found)
 memory_of_plan (plan.ServePool p slots records ticks pool former) told before after keeps same =
     inl (refused.NoMemory, tt, (refl, keeps), same)
 memory_of_plan (plan.List p) told before after keeps same = (same.held, same.found)
-memory_of_plan (plan.Storm p start count reach slots records ticks) told before after keeps same =
+memory_of_plan (plan.Storm p start count reach plain slots records ticks) told before after keeps
+    same =
     (same.held, same.found)
 memory_of_plan (plan.Why p) told before after keeps same = (same.held, same.found)
 memory_of_plan (plan.Workers p s workers slots records ticks) told before after keeps same =

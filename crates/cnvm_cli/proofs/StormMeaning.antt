@@ -38,7 +38,7 @@ use Rattle.session_run.specs.declared.storm.StormOrder.{StormOrder}
 use Rattle.session_run.specs.declared.storm.Tally.{Tally}
 use Rattle.session_run.specs.Stormed as stormed
 use Rattle.session_run.specs.Made.{Created, Uncreated}
-use Rattle.session_run.specs.Stormed.{no_tally, tally_text}
+use Rattle.session_run.specs.Stormed.{no_tally, summary_text, any_broken}
 use Rattle.session_run.specs.Storms as inside
 use Rattle.session_run.specs.Storms.{Rounds, RoundsOf, StormStarves, StormedAll, StormedPart}
 use Rattle.session_run.specs.Storms.{StormedAs}
@@ -209,10 +209,10 @@ module _ (program : Program) (agrees : Agrees program) where
         refl,
       )
 
-  storm_all : (order : StormOrder) (d d' : Device) (w w' : Option (List ℕ)) (k k' : ℕ) →
-      StormedAll program order w w' d d' k k' →
-      CountsMeant program order w w' d d' k k'
-  storm_all order d d' w w' k k' made =
+  storm_all : (order : StormOrder) (d d' : Device) (w w' : Option (List ℕ)) (k k' : ℕ)
+      (unmet : Bool) → StormedAll program order unmet w w' d d' k k' →
+      CountsMeant program order unmet w w' d d' k k'
+  storm_all order d d' w w' k k' unmet made =
       let b : Device = made.0 in
       let holds = created_rests program d b made.1 in
       let r = made.2 in
@@ -240,32 +240,34 @@ module _ (program : Program) (agrees : Agrees program) where
             last.0,
             one.0,
             last.2,
-            subst (λ (t : Tally). Appends w last.2 (tally_text t))
+            subst (λ (t : Tally). Appends w last.2 (summary_text order.plain t))
                 tallied.tally last.3,
             one.1,
             last.5,
             one.2,
             one.3,
           ),
+          r.6 ∙ ap any_broken tallied.tally,
         ),
       )
 
-  summary_part : (t t' : Tally) (x : Moment) (d' : Device) (w w' : Option (List ℕ)) (k' : ℕ) →
-      t ≡ t' → Known x → inside.TallyPart program t x.mode x.device w x.steps d' w' k' →
-      SummaryPart program t' x w w' d' k'
-  summary_part t t' x d' w w' k' same holds (inl summary) =
+  summary_part : (plain : Bool) (t t' : Tally) (x : Moment) (d' : Device) (w w' : Option (List ℕ))
+      (k' : ℕ) → t ≡ t' → Known x
+      → inside.TallyPart program plain t x.mode x.device w x.steps d' w' k'
+      → SummaryPart program plain t' x w w' d' k'
+  summary_part plain t t' x d' w w' k' same holds (inl summary) =
       inl (
-        subst (λ (u : Tally). AppendsPart w w' (tally_text u)) same summary.0,
+        subst (λ (u : Tally). AppendsPart w w' (summary_text plain u)) same summary.0,
         sym summary.1,
         sym summary.2,
       )
-  summary_part t t' x d' w w' k' same holds (inr last) =
+  summary_part plain t t' x d' w w' k' same holds (inr last) =
       let one = last_step x last.0 last.1 d' k' holds last.4 in
       inr (
         last.0,
         one.0,
         last.2,
-        subst (λ (u : Tally). Appends w last.2 (tally_text u)) same
+        subst (λ (u : Tally). Appends w last.2 (summary_text plain u)) same
             last.3,
         one.1,
         last.5,
@@ -298,7 +300,7 @@ module _ (program : Program) (agrees : Agrees program) where
             last = x;
             ran = tallied.ran;
           },
-          summary_part r.0 (tally_of all.0 tallied.answers no_tally) x d' w w' k'
+          summary_part order.plain r.0 (tally_of all.0 tallied.answers no_tally) x d' w w' k'
               tallied.tally kept r.5,
         ),
       )

@@ -20,7 +20,7 @@ use Rattle.cnvm_cli.specs.Verdict.{SpellsIn}
 use Rattle.cnvm_cli.specs.inside.WorkersEnds.{WorkersRanAs, WorkersEnds}
 use Rattle.cnvm_cli.specs.WorkersMeant.{make_fault, run_status, WorkersMeantAs, WorkersMeant}
 use Rattle.cnvm_cli.proofs.Sources.{known_bytes}
-use Rattle.cnvm_cli.proofs.Statuses.{status_map}
+use Rattle.cnvm_cli.proofs.Statuses.{status_map, met_map}
 
 -- how a run ends, by its status
 pub ran_by : (program : Program) (count : ℕ) (commands : List WorkersCommand)
@@ -45,7 +45,7 @@ ran_meant : (program : Program) → Agrees program → (count : ℕ) (commands :
 ran_meant program agrees count commands words result w w' d d' k k' ran =
     status_map (λ why. Unbegun (make_fault why) program count w w' d d' k k')
     (workers_part program count commands w w' d d' k k' agrees words)
-    (workers_run program count commands w w' d d' k k' agrees words)
+    (met_map (workers_run program count commands w w' d d' k k' agrees words))
     (workers_part program count commands w w' d d' k k' agrees words) result ran
 
 pub workers_meant : (asked : Asked) (count : ℕ) (program script : Option (List ℕ))

@@ -54,14 +54,14 @@ IsRunServed asked told opens =
 -- Everything that the plan reads is there and is accepted. When a pool's file is refused is said by
 -- a clause of its own.
 abbrev pub IsPlanServed : Plan → Sources → Type 0
-IsPlanServed (plan.Run p s slots records ticks from save) told =
+IsPlanServed (plan.Run p s slots records ticks from save strict) told =
     IsRunServed (asked_by slots records ticks) told (is_some from)
-IsPlanServed (plan.RunPool p s slots records ticks pool former) told = ⊥
+IsPlanServed (plan.RunPool p s slots records ticks pool former strict) told = ⊥
 IsPlanServed (plan.Serve p slots records ticks) told =
     HasProgram (asked_by slots records ticks) told.program × HasLines told.script
 IsPlanServed (plan.ServePool p slots records ticks pool former) told = ⊥
 IsPlanServed (plan.List p) told = HasProgram listing_sizes told.program
-IsPlanServed (plan.Storm p start count reach slots records ticks) told =
+IsPlanServed (plan.Storm p start count reach plain slots records ticks) told =
     HasProgram (asked_by slots records ticks) told.program
 IsPlanServed (plan.Why p) told = HasProgram listing_sizes told.program
 IsPlanServed (plan.Workers p s workers slots records ticks) told =

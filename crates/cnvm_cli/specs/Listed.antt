@@ -8,7 +8,7 @@ use Rattle.cnvm_compile.specs.Compilation.{IsCompiled}
 use Rattle.cnvm_compile.specs.Listing.{listing}
 use Rattle.cnvm_cli.specs.declared.refused.Refused.{Refused}
 use Rattle.session_run.specs.declared.status.Status.{Status}
-use Rattle.session_run.specs.AsStatus.{AsStatus}
+use Rattle.session_run.specs.AsStatus.{AsStatus, met}
 use Rattle.cnvm_cli.specs.Run.{RefusedAs}
 use Rattle.cnvm_cli.specs.Verdict.{OfBytes, ProgramRefuses}
 
@@ -19,7 +19,7 @@ listing_sizes = record { slots = 1024; records = 256; ticks = 100000 }
 -- a text is written, by the status; no pool is made
 abbrev pub WrittenAs : List ℕ → Status → Option (List ℕ) → Option (List ℕ) → Type 0
 WrittenAs text result w w' =
-    AsStatus (λ why. ⊥) (Keeps w w') (Appends w w' text) (AppendsPart w w' text) result
+    AsStatus (λ why. ⊥) (Keeps w w') (met (Appends w w' text)) (AppendsPart w w' text) result
 
 -- The program is refused, and this is reported; or what is written is the listing of the compiled
 -- program's own code and marks.

@@ -33,6 +33,7 @@ use Rattle.cnvm_cli.specs.Opened.{ImageRefuses, ImageGives}
 use Rattle.cnvm_cli.specs.Run.{RefusedAs}
 use Rattle.session_run.specs.Made.{Created, Uncreated, Unopened}
 use Rattle.session_run.specs.Saved.{SavedAs}
+use Rattle.session_run.specs.Strict.{any_refused, strict_status}
 use Rattle.cnvm_cli.specs.Serve.{ServeMeant}
 use Rattle.cnvm_cli.specs.StormMeant.{ordered, StormMeant}
 use Rattle.cnvm_cli.specs.Verdict.{asked_by, TextsGive, TextsRefuse}
@@ -76,13 +77,19 @@ pub record RanPart (program : Program) (super : Words) (commands : List Command)
   pub steps : last.steps ≡ k'
   pub part : AppendsPart told w' (answer_text answer)
 
+-- the same, and this is whether one of the answers is a trap or a refusal
+abbrev pub RanWith : Program → Words → List Command → Moment → (unmet : Bool) → Option (List ℕ)
+    → Option (List ℕ) → Device → ℕ → Type 0
+RanWith program super commands x unmet w w' d' k' =
+    (all : RanAll program super commands x w w' d' k') × (unmet ≡ any_refused all.answers)
+
 -- A new pool is made, and holds the empty pool; then all commands are run on it.
-abbrev pub MeansAll : Program → List Command → Option (List ℕ) → Option (List ℕ) → Device →
-    Device → (k k' : ℕ) → Type 0
-MeansAll program commands w w' d d' k k' =
+abbrev pub MeansAll : Program → List Command → (unmet : Bool) → Option (List ℕ) →
+    Option (List ℕ) → Device → Device → (k k' : ℕ) → Type 0
+MeansAll program commands unmet w w' d d' k k' =
     (b : Device) × Created program d b
     × Holds program (super_words program) Ready b (created program)
-    × RanAll program (super_words program) commands (fresh_moment program b k) w w' d' k'
+    × RanWith program (super_words program) commands (fresh_moment program b k) unmet w w' d' k'
 
 abbrev pub MeansPart : Program → List Command → Option (List ℕ) → Option (List ℕ) →
     Device → Device → (k k' : ℕ) → Type 0
@@ -97,16 +104,16 @@ abbrev pub MeantAs : Program → List Command → Status → Option (List ℕ) �
 MeantAs program commands result w w' d d' k k' =
     AsStatus (λ why. Uncreated program why w w' d d' k k')
     (MeansPart program commands w w' d d' k k')
-    (MeansAll program commands w w' d d' k k')
+    (λ unmet. MeansAll program commands unmet w w' d d' k k')
     (MeansPart program commands w w' d d' k k') result
 
 -- The pool of an image is opened first, from what the source knows of the image, and its recovery
 -- is answered before the commands.
-abbrev pub OpensMeant : Program → List Command → List ℤ → Option (List ℕ) →
+abbrev pub OpensMeant : Program → List Command → List ℤ → (unmet : Bool) → Option (List ℕ) →
     Option (List ℕ) → Device → Device → (k k' : ℕ) → Type 0
-OpensMeant program commands words w w' d d' k k' =
+OpensMeant program commands words unmet w w' d d' k k' =
     (a : Answer) × (x : Moment) × (w1 : Option (List ℕ)) × OpenStep program words d k a x
-    × Appends w w1 (answer_text a) × RanAll program (image_words words) commands x
+    × Appends w w1 (answer_text a) × RanWith program (image_words words) commands x unmet
     w1 w' d' k'
 
 abbrev pub OpenMeansPart : Program → List Command → List ℤ → Option (List ℕ) →
@@ -124,7 +131,7 @@ abbrev pub OpenedMeantAs : Program → List Command → List ℤ → Status → 
 OpenedMeantAs program commands words result w w' d d' k k' =
     AsStatus (λ why. Unopened program words why w w' d d' k k')
     (OpenMeansPart program commands words w w' d d' k k')
-    (OpensMeant program commands words w w' d d' k k')
+    (λ unmet. OpensMeant program commands words unmet w w' d d' k k')
     (OpenMeansPart program commands words w w' d d' k k') result
 
 -- The pool of a run: a new one, or that of an image.
@@ -173,9 +180,10 @@ RunMeant asked told opens saves result before after =
     × JobMeant saves (start_if opens told.image) compiled.program commands result before after)
 
 abbrev pub PlanMeant : Plan → Sources → Status → (before after : Outside) → Type 0
-PlanMeant (plan.Run p s slots records ticks from save) told result before after =
-    RunMeant (asked_by slots records ticks) told (is_some from) (is_some save) result before after
-PlanMeant (plan.RunPool p s slots records ticks pool former) told result before after =
+PlanMeant (plan.Run p s slots records ticks from save strict) told result before after =
+    (ran : Status) × (result ≡ strict_status strict ran)
+    × RunMeant (asked_by slots records ticks) told (is_some from) (is_some save) ran before after
+PlanMeant (plan.RunPool p s slots records ticks pool former strict) told result before after =
     Keeps before.image after.image × (after.dev ≡ before.dev)
 PlanMeant (plan.Serve p slots records ticks) told result before after =
     ServeMeant (asked_by slots records ticks) told result before after
@@ -184,8 +192,8 @@ PlanMeant (plan.ServePool p slots records ticks pool former) told result before 
     Keeps before.image after.image × (after.dev ≡ before.dev)
 PlanMeant (plan.List p) told result before after =
     ListEnds told.program result before.out after.out × IsUntouched before after
-PlanMeant (plan.Storm p start count reach slots records ticks) told result before after =
-    StormMeant (asked_by slots records ticks) (ordered start count reach) told.program result
+PlanMeant (plan.Storm p start count reach plain slots records ticks) told result before after =
+    StormMeant (asked_by slots records ticks) (ordered start count reach plain) told.program result
     before.out after.out before.dev after.dev before.steps after.steps
     × Keeps before.image after.image
 PlanMeant (plan.Why p) told result before after =

@@ -1,7 +1,7 @@
 -- What a run on the pool of a file means. The pool's lines lie in a device that is mirrored in the
 -- file: whatever a killed process or a loss of power leaves of the file is an image of the device.
 use Rattle.std.specs.Prelude.{ℕ, ℤ, ◌≡◌, ◌≢◌, ◌⊎◌, List, [], ◌++◌, Option, Some, ⊤}
-use Rattle.std.specs.Prelude.{Bool, is_some}
+use Rattle.std.specs.Prelude.{Bool, true, false, is_some}
 use Rattle.std.specs.Io.KnownBytes.{Appends}
 use Rattle.cache_model.specs.Cache.{Words}
 use Rattle.pmem.specs.Device.{Device}
@@ -19,12 +19,13 @@ use Rattle.session_law.specs.Law.{super_words}
 use Rattle.session_run.specs.declared.status.Status.{Status}
 use Rattle.session_run.specs.declared.status.Status.TheVariants as status
 use Rattle.session_run.specs.Held.{FirstTold}
+use Rattle.session_run.specs.Strict.{strict_status, IsAnswered}
 use Rattle.cnvm_compile.specs.declared.asked.Asked.{Asked}
 use Rattle.cnvm_compile.specs.declared.compiling.Compiled.{Compiled}
 use Rattle.cnvm_cli.specs.declared.refused.Refused.{Refused}
 use Rattle.cnvm_cli.specs.CrewMeant.{CrewMeant}
 use Rattle.cnvm_cli.specs.Former.{MovesOn, TakesIf}
-use Rattle.cnvm_cli.specs.Meant.{RanAll, RanPart, OpenedMeantAs}
+use Rattle.cnvm_cli.specs.Meant.{RanAll, RanWith, RanPart, OpenedMeantAs}
 use Rattle.cnvm_cli.specs.PoolSide.{PoolSide, IsKept, IsUnrun, RunsFile}
 use Rattle.cnvm_cli.specs.Run.{RefusedAs}
 use Rattle.cnvm_cli.specs.Serve.{ServeFileMeant}
@@ -41,11 +42,11 @@ RanSome program super commands x w w' d' k' =
     × RanAll program super first x w w' d' k'
 
 -- A run on a file with these words: as one on an image's pool; or the file refused something, and
--- the run ended at the answer at hand. After status 0 the file mirrors the device.
+-- the run ended at the answer at hand. After status 0 or 10 the file mirrors the device.
 abbrev pub HeldMeant : Program → List Command → List ℤ → Status → (before after : PoolSide)
     → Type 0
 HeldMeant program commands words result before after =
-    (result ≡ status.Done → after.held.state ≡ Awake)
+    (IsAnswered result → after.held.state ≡ Awake)
     × (OpenedMeantAs program commands words result before.out after.out before.held.device
     after.held.device before.steps after.steps
     ⊎ ((result ≡ status.DeviceFault) × (after.held.state ≢ Awake)
@@ -55,11 +56,14 @@ HeldMeant program commands words result before after =
     × RanSome program (image_words words) commands x w after.out after.held.device after.steps)))
 
 -- The commands are answered from this moment on: all of them, or a part, or some until the file
--- refused something. After status 0 the file mirrors the device.
+-- refused something. After status 0 or 10 the file mirrors the device.
 abbrev pub AnsweredMeant : Program → Words → List Command → Moment → Status
     → (told : Option (List ℕ)) → (after : PoolSide) → Type 0
 AnsweredMeant program super commands x status.Done told after =
-    RanAll program super commands x told after.out after.held.device after.steps
+    RanWith program super commands x false told after.out after.held.device after.steps
+    × (after.held.state ≡ Awake)
+AnsweredMeant program super commands x status.Unmet told after =
+    RanWith program super commands x true told after.out after.held.device after.steps
     × (after.held.state ≡ Awake)
 AnsweredMeant program super commands x status.NoMemory told after =
     RanPart program super commands x told after.out after.held.device after.steps
@@ -89,8 +93,9 @@ abbrev pub NewMeant : Program → List Command → Status → Device → (before
 NewMeant program commands result b before after =
     Holds program (super_words program) Ready b (created program)
     × FirstTold
-    (λ told. RanAll program (super_words program) commands (fresh_moment program b before.steps)
-    told after.out after.held.device after.steps × (after.held.state ≡ Awake))
+    (λ unmet told. RanWith program (super_words program) commands
+    (fresh_moment program b before.steps) unmet told after.out after.held.device after.steps
+    × (after.held.state ≡ Awake))
     (λ told. RanPart program (super_words program) commands (fresh_moment program b before.steps)
     told after.out after.held.device after.steps)
     (λ told. RanSome program (super_words program) commands (fresh_moment program b before.steps)
@@ -115,15 +120,17 @@ FileMeant asked moves told result before after =
 
 -- the plan runs on a pool's file
 abbrev pub HasPool : Option Plan → Type 0
-HasPool (Some (plan.RunPool p s slots records ticks pool former)) = ⊤
+HasPool (Some (plan.RunPool p s slots records ticks pool former strict)) = ⊤
 HasPool (Some (plan.ServePool p slots records ticks pool former)) = ⊤
 HasPool (Some (plan.WorkersPool p s workers slots records ticks pool)) = ⊤
 HasPool _ = ⊥
 
 -- A call by its plan: one that names no pool's file leaves the device over it as it was.
 abbrev pub PlanOnFile : Option Plan → Sources → Status → (before after : PoolSide) → Type 0
-PlanOnFile (Some (plan.RunPool p s slots records ticks pool former)) told result before after =
-    FileMeant (asked_by slots records ticks) (is_some former) told result before after
+PlanOnFile (Some (plan.RunPool p s slots records ticks pool former strict)) told result before
+    after =
+    (ran : Status) × (result ≡ strict_status strict ran)
+    × FileMeant (asked_by slots records ticks) (is_some former) told ran before after
 PlanOnFile (Some (plan.ServePool p slots records ticks pool former)) told result before after =
     ServeFileMeant (asked_by slots records ticks) (is_some former) told result before after
 PlanOnFile (Some (plan.WorkersPool p s workers slots records ticks pool)) told result before after =

@@ -6,15 +6,15 @@ use Rattle.cnvm_words.specs.declared.plan.Plan.TheVariants as plan
 
 -- the program, and where lines are answered, the script too
 abbrev pub IsRead : Plan → (program script : Option (List ℕ)) → Type 0
-IsRead (plan.Run p s slots records ticks from save) program script =
+IsRead (plan.Run p s slots records ticks from save strict) program script =
     IsAtEnd program × IsAtEnd script
-IsRead (plan.RunPool p s slots records ticks pool former) program script =
+IsRead (plan.RunPool p s slots records ticks pool former strict) program script =
     IsAtEnd program × IsAtEnd script
 IsRead (plan.Serve p slots records ticks) program script = IsAtEnd program × IsAtEnd script
 IsRead (plan.ServePool p slots records ticks pool former) program script =
     IsAtEnd program × IsAtEnd script
 IsRead (plan.List p) program script = IsAtEnd program
-IsRead (plan.Storm p start count reach slots records ticks) program script = IsAtEnd program
+IsRead (plan.Storm p start count reach plain slots records ticks) program script = IsAtEnd program
 IsRead (plan.Why p) program script = IsAtEnd program
 IsRead (plan.Workers p s workers slots records ticks) program script =
     IsAtEnd program × IsAtEnd script

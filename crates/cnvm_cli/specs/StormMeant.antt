@@ -2,7 +2,7 @@
 -- commands that are drawn, each answered as the source says to the image that is found there; these
 -- answers are counted.
 use Rattle.std.specs.Prelude.{ℕ, zero, suc, ◌<◌, ◌-◌, ◌^◌, min, List, [], ◌∷◌, ◌++◌, Option, Some}
-use Rattle.std.specs.Prelude.{◌≡◌, ◌⊎◌}
+use Rattle.std.specs.Prelude.{◌≡◌, ◌⊎◌, Bool}
 use Rattle.std.specs.Io.KnownBytes.{Appends, Keeps}
 use Rattle.nvm_base.specs.Parts.{AppendsPart}
 use Rattle.pmem.specs.Device.{Device}
@@ -30,10 +30,11 @@ use Rattle.session_run.specs.AsStatus.{AsStatus}
 use Rattle.cnvm_cli.specs.Verdict.{OfBytes, ProgramRefuses}
 use Rattle.cnvm_cli.specs.Run.{RefusedAs}
 use Rattle.session_run.specs.Made.{Created, Uncreated}
-use Rattle.session_run.specs.Stormed.{counted, no_tally, tally_text}
+use Rattle.session_run.specs.Stormed.{counted, no_tally, summary_text, any_broken}
 
-abbrev pub ordered : (start count reach : ℕ) → StormOrder
-ordered start count reach = record { start = start; count = count; reach = reach }
+abbrev pub ordered : (start count reach : ℕ) → (plain : Bool) → StormOrder
+ordered start count reach plain =
+    record { start = start; count = count; reach = reach; plain = plain }
 
 -- the commands of `count` rounds of the generator, from the number x on
 abbrev pub Drawn : List FunctionTree → (reach : ℕ) → ℕ → (count : ℕ) → List Command → Type 0
@@ -72,33 +73,34 @@ pub record Storms (program : Program) (order : StormOrder) (x : Moment) :
   pub ran : Ran program (super_words program) commands answers x last
 
 -- The summary is written, and then the answer of `last`.
-abbrev pub SummaryMeant : Program → Tally → Moment → Option (List ℕ) → Option (List ℕ) →
-    Device → (k' : ℕ) → Type 0
-SummaryMeant program t x w w' d' k' =
-    (a : Answer) × (y : Moment) × (w1 : Option (List ℕ)) × Appends w w1 (tally_text t)
+abbrev pub SummaryMeant : Program → (plain : Bool) → Tally → Moment → Option (List ℕ) →
+    Option (List ℕ) → Device → (k' : ℕ) → Type 0
+SummaryMeant program plain t x w w' d' k' =
+    (a : Answer) × (y : Moment) × (w1 : Option (List ℕ)) × Appends w w1 (summary_text plain t)
     × SessionStep program (super_words program) command.Last x a y
     × Appends w1 w' (answer_text a)
     × (y.device ≡ d') × (y.steps ≡ k')
 
 -- a part of the summary is written, or all of it and a part of the answer of `last`
-abbrev pub SummaryPart : Program → Tally → Moment → Option (List ℕ) → Option (List ℕ) →
-    Device → (k' : ℕ) → Type 0
-SummaryPart program t x w w' d' k' =
-    (AppendsPart w w' (tally_text t) × (x.device ≡ d') × (x.steps ≡ k'))
-    ⊎ ((a : Answer) × (y : Moment) × (w1 : Option (List ℕ)) × Appends w w1 (tally_text t)
+abbrev pub SummaryPart : Program → (plain : Bool) → Tally → Moment → Option (List ℕ) →
+    Option (List ℕ) → Device → (k' : ℕ) → Type 0
+SummaryPart program plain t x w w' d' k' =
+    (AppendsPart w w' (summary_text plain t) × (x.device ≡ d') × (x.steps ≡ k'))
+    ⊎ ((a : Answer) × (y : Moment) × (w1 : Option (List ℕ)) × Appends w w1 (summary_text plain t)
     × SessionStep program (super_words program) command.Last x a y
     × AppendsPart w1 w' (answer_text a) × (y.device ≡ d') × (y.steps ≡ k'))
 
 -- A new pool is made, and holds the empty pool; then the storm is run on it, and this much of its
 -- summary is written.
-abbrev pub CountsMeant : Program → StormOrder → Option (List ℕ) → Option (List ℕ) →
-    Device → Device → (k k' : ℕ) → Type 0
-CountsMeant program order w w' d d' k k' =
+abbrev pub CountsMeant : Program → StormOrder → (unmet : Bool) → Option (List ℕ) →
+    Option (List ℕ) → Device → Device → (k k' : ℕ) → Type 0
+CountsMeant program order unmet w w' d d' k k' =
     (b : Device) × Created program d b
     × Holds program (super_words program) Ready b (created program)
     × ((storm : Storms program order (fresh_moment program b k))
-    × SummaryMeant program (tally_of storm.commands storm.answers no_tally) storm.last
-    w w' d' k')
+    × SummaryMeant program order.plain (tally_of storm.commands storm.answers no_tally) storm.last
+    w w' d' k'
+    × (unmet ≡ any_broken (tally_of storm.commands storm.answers no_tally)))
 
 abbrev pub CountsPart : Program → StormOrder → Option (List ℕ) → Option (List ℕ) →
     Device → Device → (k k' : ℕ) → Type 0
@@ -106,7 +108,7 @@ CountsPart program order w w' d d' k k' =
     (b : Device) × Created program d b
     × Holds program (super_words program) Ready b (created program)
     × ((storm : Storms program order (fresh_moment program b k))
-    × SummaryPart program (tally_of storm.commands storm.answers no_tally) storm.last
+    × SummaryPart program order.plain (tally_of storm.commands storm.answers no_tally) storm.last
     w w' d' k')
 
 -- There was no memory for the commands of a round: fewer rounds are run, and nothing is written.
@@ -126,7 +128,7 @@ StormMeantAs program order result w w' d d' k k' =
     AsStatus (λ why. Uncreated program why w w' d d' k k')
     (CountsCut program order w w' d d' k k'
     ⊎ CountsPart program order w w' d d' k k')
-    (CountsMeant program order w w' d d' k k')
+    (λ unmet. CountsMeant program order unmet w w' d d' k k')
     (CountsPart program order w w' d d' k k') result
 
 -- What a storm means: the program is refused, this is reported, and nothing is run; or the storm

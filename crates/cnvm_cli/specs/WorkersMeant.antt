@@ -18,7 +18,7 @@ use Rattle.cnvm_compile.specs.Compilation.{IsCompiled}
 use Rattle.cnvm_cli.specs.declared.refused.Refused.{Refused}
 use Rattle.session_run.specs.declared.status.Status.{Status}
 use Rattle.session_run.specs.declared.status.Status.TheVariants as status
-use Rattle.session_run.specs.AsStatus.{AsStatus}
+use Rattle.session_run.specs.AsStatus.{AsStatus, met}
 use Rattle.cnvm_cli.specs.Run.{RefusedAs}
 use Rattle.cnvm_cli.specs.Verdict.{OfBytes, SpellsIn, RefuseIn}
 
@@ -40,7 +40,7 @@ abbrev pub WorkersMeantAs : Program → (count : ℕ) → List WorkersCommand �
 WorkersMeantAs program count commands result w w' d d' k k' =
     AsStatus (λ why. Unbegun (make_fault why) program count w w' d d' k k')
     (BrokeOffNew program count commands w w' d d' k k')
-    (RanNew program count commands w w' d d' k k')
+    (met (RanNew program count commands w w' d d' k k'))
     (BrokeOffNew program count commands w w' d d' k k') result
 
 -- The program or the script is refused, this is reported, and nothing is run; or the script's

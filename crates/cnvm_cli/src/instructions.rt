@@ -4,6 +4,7 @@ ghost use Rattle.std.specs.Prelude.{◌≡◌, ◌≢◌};
 ghost use Rattle.std.specs.Io.KnownBytes.{IsAtEnd};
 ghost use Rattle.nvm_base.specs.Rose.{Rose};
 ghost use Rattle.cnvm_cli.specs.CodeEnds.{CodeEnds};
+ghost use Rattle.session_run.specs.Strict.{IsAnswered};
 
 use crate::reading::read_program;
 use crate::refused::refuse;
@@ -19,7 +20,7 @@ pub(crate) fn code<S: Source, K: Sink>(alloc: Global, program: &mut S, out: &mut
     ensures usage { result ≢ Status.Usage }
     ensures write { result ≡ Status.WriteFault → Rose (K.faults out.old) (K.faults out.new) }
     ensures device { result ≢ Status.DeviceFault }
-    ensures end { result ≡ Status.Done → IsAtEnd (S.left program.new) }
+    ensures end { IsAnswered result → IsAtEnd (S.left program.new) }
     ensures ends { CodeEnds (S.left program.old) result (K.written out.old) (K.written out.new) }
 {
     let compiled = match read_program(alloc, program, LISTED) {

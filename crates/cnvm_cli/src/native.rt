@@ -4,6 +4,7 @@ ghost use Rattle.std.specs.Prelude.{◌≡◌, ◌≢◌};
 ghost use Rattle.std.specs.Io.KnownBytes.{IsAtEnd};
 ghost use Rattle.nvm_base.specs.Rose.{Rose};
 ghost use Rattle.cnvm_cli.specs.Emitted.{EmitEnds};
+ghost use Rattle.session_run.specs.Strict.{IsAnswered};
 
 use crate::reading::read_program;
 use crate::refused::refuse;
@@ -26,7 +27,7 @@ pub(crate) fn emit<S: Source, K: Sink>(
     ensures usage { result ≢ Status.Usage }
     ensures write { result ≡ Status.WriteFault → Rose (K.faults out.old) (K.faults out.new) }
     ensures device { result ≢ Status.DeviceFault }
-    ensures end { result ≡ Status.Done → IsAtEnd (S.left program.new) }
+    ensures end { IsAnswered result → IsAtEnd (S.left program.new) }
     ensures ends { EmitEnds asked prefix.now header (S.left program.old) result
         (K.written out.old) (K.written out.new) }
 {

@@ -9,6 +9,7 @@ ghost use Rattle.nvm_base.specs.Rose.{Rose};
 ghost use Rattle.file_pmem.specs.File.{HoldsWords};
 ghost use Rattle.file_pmem.specs.Found.{Found};
 ghost use Rattle.pool_layout.specs.Sizes.{pool_lines};
+ghost use Rattle.session_run.specs.Strict.{IsAnswered};
 ghost use Rattle.cnvm_cli.specs.PoolSide.{held_by, pool_side, IsKept};
 ghost use Rattle.cnvm_cli.specs.World.{told_by};
 ghost use Rattle.cnvm_cli.specs.inside.FormerEnds.{ComesFromText, IsUsable};
@@ -55,8 +56,8 @@ pub(crate) fn run_file<
     ensures usage { result ≢ Status.Usage }
     ensures write { result ≡ Status.WriteFault
         → Rose (K.faults world.old.out) (K.faults world.new.out) }
-    ensures program_end { result ≡ Status.Done → IsAtEnd (S.left world.new.program) }
-    ensures script_end { result ≡ Status.Done → IsAtEnd (T.left world.new.script) }
+    ensures program_end { IsAnswered result → IsAtEnd (S.left world.new.program) }
+    ensures script_end { IsAnswered result → IsAtEnd (T.left world.new.script) }
     ensures image { world.new.image_out ≡ world.old.image_out }
     ensures device { world.new.dev ≡ world.old.dev }
     ensures kept { IsKept (held_by N.memory G.File.content dev.new) }

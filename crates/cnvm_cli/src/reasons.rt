@@ -6,6 +6,7 @@ ghost use Rattle.nvm_base.specs.Rose.{Rose};
 ghost use Rattle.walk_maker.specs.WhyText.{why_text};
 ghost use Rattle.cnvm_cli.specs.Listed.{WrittenAs};
 ghost use Rattle.cnvm_cli.specs.WhyEnds.{WhyEnds};
+ghost use Rattle.session_run.specs.Strict.{IsAnswered};
 
 use crate::reading::read_program;
 use crate::refused::refuse;
@@ -23,7 +24,7 @@ pub(crate) fn why<S: Source, K: Sink>(alloc: Global, program: &mut S, out: &mut 
     ensures usage { result ≢ Status.Usage }
     ensures write { result ≡ Status.WriteFault → Rose (K.faults out.old) (K.faults out.new) }
     ensures device { result ≢ Status.DeviceFault }
-    ensures end { result ≡ Status.Done → IsAtEnd (S.left program.new) }
+    ensures end { IsAnswered result → IsAtEnd (S.left program.new) }
     ensures ends { WhyEnds (S.left program.old) result (K.written out.old) (K.written out.new) }
 {
     let compiled = match read_program(alloc, program, LISTED) {

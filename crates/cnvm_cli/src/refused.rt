@@ -45,6 +45,7 @@ pub(crate) fn refuse<K: Sink>(alloc: Global, refused: Refused, out: &mut K) -> S
     ensures status { (result ≡ refusal_status refused)
         ⊎ ((result ≡ Status.NoMemory) ⊎ (result ≡ Status.WriteFault)) }
     ensures undone { result ≢ Status.Done }
+    ensures unmet { result ≢ Status.Unmet }
     ensures write { result ≡ Status.WriteFault → (refusal_status refused ≡ Status.WriteFault)
         ⊎ Rose (K.faults out.old) (K.faults out.new) }
 {
@@ -89,6 +90,7 @@ fn image_has_line(fault: ImageFault) -> bool
 fn refusal_status(refused: Refused) -> Status
     ensures value { result ≡ refusal_status refused }
     ensures undone { result ≢ Status.Done }
+    ensures unmet { result ≢ Status.Unmet }
 {
     match refused {
         Refused::Usage => Status::Usage,
@@ -106,6 +108,7 @@ fn refusal_status(refused: Refused) -> Status
 fn image_status(fault: ImageFault) -> Status
     ensures value { result ≡ image_status fault }
     ensures undone { result ≢ Status.Done }
+    ensures unmet { result ≢ Status.Unmet }
 {
     match fault {
         ImageFault::Short(_, _) => Status::Image,

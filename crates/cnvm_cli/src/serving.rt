@@ -14,6 +14,7 @@ ghost use Rattle.cnvm_cli.specs.inside.FormerEnds.{ComesFromText, IsUsable};
 ghost use Rattle.cnvm_cli.specs.inside.ServeEnds.{MemoryEnds, ServeEnds, ServeFound, ServeMissing};
 ghost use Rattle.cnvm_cli.specs.inside.ServeEnds.{ServeImage, ServeWords, ServeEither};
 ghost use Rattle.cnvm_cli.specs.inside.ServeEnds.{ServeMoved, ServesMoved};
+ghost use Rattle.session_run.specs.Strict.{IsAnswered};
 
 use crate::former::{FormerPool, Owned, Unheld, former_file, read_owned, take_over};
 use crate::pool::{are_same, other_words};
@@ -60,8 +61,8 @@ pub(crate) fn serve_memory<
         → Rose (K.faults world.old.out) (K.faults world.new.out) }
     ensures device { result ≡ Status.DeviceFault
         → device.FaultsRose (P.device world.old.dev).faults (P.device world.new.dev).faults }
-    ensures program_end { result ≡ Status.Done → IsAtEnd (S.left world.new.program) }
-    ensures script_end { result ≡ Status.Done → IsAtEnd (T.left world.new.script) }
+    ensures program_end { IsAnswered result → IsAtEnd (S.left world.new.program) }
+    ensures script_end { IsAnswered result → IsAtEnd (T.left world.new.script) }
     ensures ends { MemoryEnds asked (told_by S.left T.left I.left world.old world.new) result
         (K.written world.old.out) (K.written world.new.out) (P.device world.old.dev)
         (P.device world.new.dev) steps.old steps.new }
@@ -92,7 +93,7 @@ pub(crate) fn serve_memory<
 fn status_of<K: Sink>(alloc: Global, served: Result<Served, StartFault>, out: &mut K) -> Status
     ensures status { StatusOf served result (K.written out.old) (K.written out.new) }
     ensures usage { result ≢ Status.Usage }
-    ensures done { result ≡ Status.Done → served ≡ Ok Served.Done }
+    ensures done { IsAnswered result → served ≡ Ok Served.Done }
     ensures read { result ≡ Status.ReadFault → served ≡ Ok Served.ReadFault }
     ensures write { result ≡ Status.WriteFault → (served ≡ Ok Served.WriteFault)
         ⊎ Rose (K.faults out.old) (K.faults out.new) }
@@ -138,8 +139,8 @@ pub(crate) fn serve_file<
     ensures usage { result ≢ Status.Usage }
     ensures write { result ≡ Status.WriteFault
         → Rose (K.faults world.old.out) (K.faults world.new.out) }
-    ensures program_end { result ≡ Status.Done → IsAtEnd (S.left world.new.program) }
-    ensures script_end { result ≡ Status.Done → IsAtEnd (T.left world.new.script) }
+    ensures program_end { IsAnswered result → IsAtEnd (S.left world.new.program) }
+    ensures script_end { IsAnswered result → IsAtEnd (T.left world.new.script) }
     ensures image { world.new.image_out ≡ world.old.image_out }
     ensures device { world.new.dev ≡ world.old.dev }
     ensures kept { IsKept (held_by N.memory G.File.content dev.new) }
@@ -204,7 +205,7 @@ fn serve_found<
     requires { ComesFromText asked compiled.now }
     ensures usage { result ≢ Status.Usage }
     ensures write { result ≡ Status.WriteFault → Rose (K.faults out.old) (K.faults out.new) }
-    ensures end { result ≡ Status.Done → IsAtEnd (T.left lines.new) }
+    ensures end { IsAnswered result → IsAtEnd (T.left lines.new) }
     ensures ends { ServeFound asked moves compiled.now.program (T.left lines.old)
         (T.left lines.new) (S.left former.old) (I.left image.old) result
         (pool_side (G.found pools.old) (K.written out.old)
@@ -244,7 +245,7 @@ fn serve_missing<T: Source, K: Sink, N: Lines + Drop, G: Pools, B: BadLines, L: 
 ) -> Status
     ensures usage { result ≢ Status.Usage }
     ensures write { result ≡ Status.WriteFault → Rose (K.faults out.old) (K.faults out.new) }
-    ensures end { result ≡ Status.Done → IsAtEnd (T.left lines.new) }
+    ensures end { IsAnswered result → IsAtEnd (T.left lines.new) }
     ensures ends { ServeMissing program.now (T.left lines.old) (T.left lines.new) result
         (pool_side (G.found pools.old) (K.written out.old) (held_by N.memory G.File.content
         dev.old) steps.old) (pool_side (G.found pools.new) (K.written out.new)
@@ -290,7 +291,7 @@ fn serve_image<
 ) -> Status
     ensures usage { result ≢ Status.Usage }
     ensures write { result ≡ Status.WriteFault → Rose (K.faults out.old) (K.faults out.new) }
-    ensures end { result ≡ Status.Done → IsAtEnd (T.left lines.new) }
+    ensures end { IsAnswered result → IsAtEnd (T.left lines.new) }
     ensures ends { (found : Option Found) → ServeImage program.now (T.left lines.old)
         (T.left lines.new) (I.left image.old) (F.content file) result (pool_side found
         (K.written out.old) (held_by N.memory F.content dev.old) steps.old) (pool_side found
@@ -329,7 +330,7 @@ fn serve_words<T: Source, K: Sink, N: Lines + Drop, F: LineFile + Drop, B: BadLi
 ) -> Status
     ensures usage { result ≢ Status.Usage }
     ensures write { result ≡ Status.WriteFault → Rose (K.faults out.old) (K.faults out.new) }
-    ensures end { result ≡ Status.Done → IsAtEnd (T.left lines.new) }
+    ensures end { IsAnswered result → IsAtEnd (T.left lines.new) }
     ensures ends { (found : Option Found) → ServeWords program.now (T.left lines.old)
         (T.left lines.new) words.now (F.content file) result (pool_side found
         (K.written out.old) (held_by N.memory F.content dev.old) steps.old) (pool_side found
@@ -378,7 +379,7 @@ fn serve_either<
     requires { ComesFromText asked compiled.now }
     ensures usage { result ≢ Status.Usage }
     ensures write { result ≡ Status.WriteFault → Rose (K.faults out.old) (K.faults out.new) }
-    ensures end { result ≡ Status.Done → IsAtEnd (T.left lines.new) }
+    ensures end { IsAnswered result → IsAtEnd (T.left lines.new) }
     ensures ends { (found : Option Found) → ServeEither asked compiled.now.program
         (T.left lines.old) (T.left lines.new) (S.left former.old) (I.left image.old)
         (F.content file) result (pool_side found (K.written out.old)
@@ -422,7 +423,7 @@ fn serve_moved<T: Source, K: Sink, N: Lines + Drop, F: LineFile + Drop, B: BadLi
     requires { IsUsable program.now pool.now }
     ensures usage { result ≢ Status.Usage }
     ensures write { result ≡ Status.WriteFault → Rose (K.faults out.old) (K.faults out.new) }
-    ensures end { result ≡ Status.Done → IsAtEnd (T.left lines.new) }
+    ensures end { IsAnswered result → IsAtEnd (T.left lines.new) }
     ensures ends { (found : Option Found) → ServeMoved program.now pool.now (T.left lines.old)
         (T.left lines.new) (F.content file) result (pool_side found (K.written out.old)
         (held_by N.memory F.content dev.old) steps.old) (pool_side found (K.written out.new)
@@ -456,7 +457,7 @@ fn serve_former<T: Source, K: Sink, N: Lines + Drop, F: LineFile + Drop, B: BadL
         (pool_lines pool.now.compiled.program.image.parts.sizes) pool.now.words }
     ensures usage { result ≢ Status.Usage }
     ensures write { result ≡ Status.WriteFault → Rose (K.faults out.old) (K.faults out.new) }
-    ensures end { result ≡ Status.Done → IsAtEnd (T.left lines.new) }
+    ensures end { IsAnswered result → IsAtEnd (T.left lines.new) }
     ensures ends { (found : Option Found) → ServesMoved (T.left lines.old) (T.left lines.new)
         pool.now.compiled.program program.now result (pool_side found (K.written out.old)
         (held_by N.memory F.content dev.old) steps.old) (pool_side found (K.written out.new)

@@ -9,6 +9,7 @@ ghost use Rattle.cnvm_cli.specs.WorkersMeant.{run_status};
 ghost use Rattle.cnvm_cli.specs.inside.CrewEnds.{CrewReadAs};
 ghost use Rattle.cnvm_cli.specs.inside.WorkersEnds.{WorkersRanAs, WorkersEnds};
 ghost use Rattle.cnvm_cli.specs.inside.Texts.{ReadIn};
+ghost use Rattle.session_run.specs.Strict.{IsAnswered};
 
 use crate::reading::{read_program, read_text};
 use crate::refused::{Refused, refuse};
@@ -85,8 +86,8 @@ pub(crate) fn run_script<
         → Rose (K.faults world.old.out) (K.faults world.new.out) }
     ensures device { result ≡ Status.DeviceFault
         → device.FaultsRose (P.device world.old.dev).faults (P.device world.new.dev).faults }
-    ensures program_end { result ≡ Status.Done → IsAtEnd (S.left world.new.program) }
-    ensures script_end { result ≡ Status.Done → IsAtEnd (T.left world.new.script) }
+    ensures program_end { IsAnswered result → IsAtEnd (S.left world.new.program) }
+    ensures script_end { IsAnswered result → IsAtEnd (T.left world.new.script) }
     ensures ends { WorkersEnds asked count (S.left world.old.program) (T.left world.old.script)
         result (K.written world.old.out) (K.written world.new.out) (P.device world.old.dev)
         (P.device world.new.dev) steps.old steps.new }

@@ -10,6 +10,7 @@ ghost use Rattle.cnvm_cli.specs.PoolSide.{held_by, pool_side, IsKept};
 ghost use Rattle.cnvm_cli.specs.World.{told_by};
 ghost use Rattle.cnvm_cli.specs.inside.CrewEnds.{CrewEnds, CrewFoundEnds, CrewMissingEnds};
 ghost use Rattle.cnvm_cli.specs.inside.CrewEnds.{CrewImageEnds, CrewWordsEnd};
+ghost use Rattle.session_run.specs.Strict.{IsAnswered};
 
 use crate::crew_reading::{last_version, read_crew_words};
 use crate::pool::are_same;
@@ -55,8 +56,8 @@ pub(crate) fn run_crew_file<
     ensures usage { result ≢ Status.Usage }
     ensures write { result ≡ Status.WriteFault
         → Rose (K.faults world.old.out) (K.faults world.new.out) }
-    ensures program_end { result ≡ Status.Done → IsAtEnd (S.left world.new.program) }
-    ensures script_end { result ≡ Status.Done → IsAtEnd (T.left world.new.script) }
+    ensures program_end { IsAnswered result → IsAtEnd (S.left world.new.program) }
+    ensures script_end { IsAnswered result → IsAtEnd (T.left world.new.script) }
     ensures image { world.new.image_out ≡ world.old.image_out }
     ensures device { world.new.dev ≡ world.old.dev }
     ensures kept { IsKept (held_by N.memory G.File.content dev.new) }

@@ -5,11 +5,11 @@ use crate::answer_sink::AnswerSink;
 use crate::script_source::ScriptSource;
 use cnvm_cli::{World, push_digest};
 use cnvm_notes::{
-    RunTexts, Stormed, WorkersTexts, answers_note, script_note, storm_note, workers_answers_note,
-    workers_note,
+    BrokenCheck, RunTexts, Stormed, WorkersTexts, answers_note, script_note, storm_note,
+    workers_answers_note, workers_note,
 };
 use cnvm_script::next_line;
-use cnvm_session::{Trapped, Traps};
+use cnvm_session::{StormCall, Trapped, Traps};
 use cnvm_words::{Plan, plan_of};
 use nvm_base::{KeptSource, Reason, SavedFile, Sink, StdSink, StdSource, write_all};
 use plain_notes::{
@@ -77,7 +77,7 @@ fn message<R: Files + Input + Print + AllocGlobal, P: Drop>(
     pool: Option<Reason>,
 ) -> Result<Option<String>, AllocError> {
     match status {
-        Status::Done => of_done(alloc, words, named, world),
+        Status::Done | Status::Unmet => of_done(alloc, words, named, world),
         Status::NoMemory => plain(alloc, "out of memory"),
         Status::Usage => Ok(Some(of_words(alloc, words)?)),
         Status::Program => of_programs(alloc, named, world),
@@ -229,18 +229,38 @@ fn of_plan<'a>(
         Plan::Serve { .. } | Plan::ServePool { .. } => of_lines(alloc, named, texts, traps),
         Plan::Workers { .. } => of_workers(alloc, named, texts, traps, false),
         Plan::WorkersPool { .. } => of_workers(alloc, named, texts, traps, true),
-        Plan::Storm { .. } => {
-            let stormed = Stormed {
-                round: traps.round,
-                call: match &traps.call {
-                    Some(call) => call.as_str(),
-                    None => "",
-                },
-                line: line_of(traps.ended),
-            };
-            storm_note(alloc, named.program, texts.answers, stormed)
-        }
+        Plan::Storm { .. } => of_storm(alloc, named, texts, traps),
         Plan::List { .. } | Plan::Why { .. } | Plan::Emit { .. } | Plan::Code { .. } => Ok(None),
+    }
+}
+
+/// The message of a storm in which a check was broken or a transaction trapped.
+fn of_storm<'a>(
+    alloc: Global,
+    named: Named<'a>,
+    texts: Texts<'a>,
+    traps: &Traps,
+) -> Result<Option<String>, AllocError> {
+    let stormed = Stormed {
+        round: traps.round,
+        call: text_or_none(&traps.call),
+        line: line_of(traps.ended),
+    };
+    let broken = match &traps.broken {
+        Some(StormCall { round, call }) => Some(BrokenCheck {
+            round: *round,
+            call: text_or_none(call),
+        }),
+        None => None,
+    };
+    storm_note(alloc, named.program, texts.answers, stormed, broken)
+}
+
+/// The text, or an empty one.
+fn text_or_none(text: &Option<String>) -> &str {
+    match text {
+        Some(text) => text.as_str(),
+        None => "",
     }
 }
 

@@ -1,6 +1,6 @@
 //! The message of answers that are traps or refusals.
 
-use crate::lines::{TrapEnd, after_slots, first_line, trap_end, unusable};
+use crate::lines::{TrapEnd, after_dead, after_slots, first_line, trap_end, unusable};
 use crate::summary::{Refusals, push_message, push_refused, unless_empty, with_line};
 use cnvm_script::{Command, next_line, read_line};
 use plain_notes::{PoolLeft, Told, of_trap, of_unusable_image};
@@ -106,7 +106,7 @@ fn after_command<'a>(
         Lines::None => Ok(left),
         Lines::One => after_answer(alloc, found, run, number, left),
         Lines::Pool => {
-            let others = after_answer(alloc, found, run, number, left)?;
+            let others = after_answer(alloc, found, run, number, after_dead(left))?;
             Ok(after_slots(others))
         }
     }
@@ -117,14 +117,14 @@ fn after_command<'a>(
 enum Lines {
     None,
     One,
-    /// One, and one for each slot with an object.
+    /// One, and one for each slot with an object; before these perhaps one of a trap.
     Pool,
 }
 
 fn lines_of(command: &Command) -> Lines {
     match command {
         Command::Stop(_) | Command::Fault(_) => Lines::None,
-        Command::Show => Lines::Pool,
+        Command::Show | Command::ShowDead => Lines::Pool,
         Command::Call { .. } | Command::Power(_) | Command::Last => Lines::One,
     }
 }

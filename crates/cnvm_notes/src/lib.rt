@@ -13,5 +13,5 @@ mod workers;
 
 pub use answers::{RunTexts, answers_note};
 pub use refused_script::{line_note, script_note, workers_note};
-pub use storm::{Stormed, is_storm_over, storm_note};
+pub use storm::{BrokenCheck, Stormed, is_storm_over, storm_note};
 pub use workers::{WorkersTexts, workers_answers_note};

@@ -20,6 +20,14 @@ pub(crate) fn after_slots(left: &[u8]) -> &[u8] {
     rest
 }
 
+/// The text after the line that tells which trap ended the pool, if it begins with one.
+pub(crate) fn after_dead(left: &[u8]) -> &[u8] {
+    if left.starts_with(b"dead ") {
+        return first_line(left).1;
+    }
+    left
+}
+
 /// The trap of a pool that takes no calls, if the line tells it.
 pub(crate) fn unusable(line: &[u8]) -> Option<&[u8]> {
     after_head(line, b"refused unusable ")

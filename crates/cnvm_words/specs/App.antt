@@ -29,12 +29,19 @@ abbrev pub filed : App → App
 filed app =
     pooled (with_rule (with_rule app (option_rule (codes "open"))) (option_rule (codes "save")))
 
+-- a command with the options for how a storm cuts and counts
+abbrev pub counting : App → App
+counting app =
+    with_rule (with_rule app (option_rule (codes "reach"))) (flag_rule (codes "plain"))
+
 abbrev pub run_app : App
 run_app =
     sized
     (filed
+    (with_rule
     (with_rule (with_rule (new_app (codes "run")) (place_rule (codes "program")))
-    (place_rule (codes "script"))))
+    (place_rule (codes "script")))
+    (flag_rule (codes "strict"))))
 
 abbrev pub list_app : App
 list_app = with_rule (new_app (codes "list")) (place_rule (codes "program"))
@@ -42,12 +49,11 @@ list_app = with_rule (new_app (codes "list")) (place_rule (codes "program"))
 abbrev pub storm_app : App
 storm_app =
     sized
-    (with_rule
+    (counting
     (with_rule
     (with_rule (with_rule (new_app (codes "storm")) (place_rule (codes "program")))
     (place_rule (codes "start")))
-    (place_rule (codes "count")))
-    (option_rule (codes "reach")))
+    (place_rule (codes "count"))))
 
 abbrev pub why_app : App
 why_app = with_rule (new_app (codes "why")) (place_rule (codes "program"))

@@ -37,19 +37,25 @@ asked_pool rows =
 
 -- a pool's file isn't named together with an image, and a former text only with a pool's file
 abbrev pub run_on : (program script : List ℕ) → (slots records ticks : ℕ)
-    → (opened saved pool former : Option (List ℕ)) → Option Plan
-run_on program script slots records ticks opened saved None None =
-    Some (Run program script slots records ticks opened saved)
-run_on program script slots records ticks opened saved None (Some former) = None
-run_on program script slots records ticks None None (Some pool) former =
-    Some (RunPool program script slots records ticks pool former)
-run_on program script slots records ticks _ _ (Some pool) former = None
+    → (opened saved pool former : Option (List ℕ)) → (strict : Bool) → Option Plan
+run_on program script slots records ticks opened saved None None strict =
+    Some (Run program script slots records ticks opened saved strict)
+run_on program script slots records ticks opened saved None (Some former) strict = None
+run_on program script slots records ticks None None (Some pool) former strict =
+    Some (RunPool program script slots records ticks pool former strict)
+run_on program script slots records ticks _ _ (Some pool) former strict = None
+
+-- a flag's value is a word of clap's
+abbrev pub is_set : Option (List ℕ) → Bool
+is_set None = false
+is_set (Some text) = bytes_eq text (codes "true")
 
 abbrev pub run_plan : List Row → Option Plan
 run_plan rows =
     option_and_then (λ program. option_and_then (λ script. option_and_then (λ sizes.
     run_on program script sizes.0 sizes.1 sizes.2 (first_of (codes "open") rows)
-    (first_of (codes "save") rows) (first_of (codes "pool") rows) (first_of (codes "from") rows))
+    (first_of (codes "save") rows) (first_of (codes "pool") rows) (first_of (codes "from") rows)
+    (is_set (first_of (codes "strict") rows)))
     (asked_pool rows))
     (first_of (codes "script") rows))
     (first_of (codes "program") rows)
@@ -61,7 +67,7 @@ abbrev pub storm_plan : List Row → Option Plan
 storm_plan rows =
     option_and_then (λ program. option_and_then
     (λ start. option_and_then (λ count. option_and_then (λ reach. option_map (λ pool.
-    Storm program start count reach pool.0 pool.1 pool.2)
+    Storm program start count reach (is_set (first_of (codes "plain") rows)) pool.0 pool.1 pool.2)
     (asked_pool rows))
     (number_or 32 1 1000000 (first_of (codes "reach") rows)))
     (option_and_then (number_between 0 20000) (first_of (codes "count") rows)))
@@ -105,11 +111,6 @@ serve_plan rows =
     (asked_pool rows))
     (first_of (codes "program") rows)
 
--- a flag's value is a word of clap's
-abbrev pub is_set : Option (List ℕ) → Bool
-is_set None = false
-is_set (Some text) = bytes_eq text (codes "true")
-
 abbrev pub emit_plan : List Row → Option Plan
 emit_plan rows =
     option_and_then (λ program. option_and_then (λ prefix. option_map (λ pool.
@@ -144,5 +145,5 @@ abbrev pub HasLimits : Plan → Type 0
 HasLimits (Workers program script workers slots records ticks) = (1 ≤ workers) × (workers ≤ 8)
 HasLimits (WorkersPool program script workers slots records ticks pool) =
     (1 ≤ workers) × (workers ≤ 8)
-HasLimits (Storm program start count reach slots records ticks) = 1 ≤ reach
+HasLimits (Storm program start count reach plain slots records ticks) = 1 ≤ reach
 HasLimits _ = Unit {0}

@@ -1,11 +1,11 @@
 //! The command as `clap` knows it: eight subcommands. Their options take one value each, but for
-//! one that is a flag.
+//! those that are flags.
 
 ghost use Rattle.std.specs.Prelude.{◌≡◌, false, IfOk};
 ghost use Rattle.clap.specs.declared.builder.command.Command.TheViews.{out-Command as fields_of};
 ghost use Rattle.clap.specs.Words.{app_of, rule_of};
 ghost use Rattle.cnvm_words.specs.App.{option_rule, flag_rule, place_rule, bare_app, sized, pooled};
-ghost use Rattle.cnvm_words.specs.App.{filed};
+ghost use Rattle.cnvm_words.specs.App.{filed, counting};
 ghost use Rattle.cnvm_words.specs.App.{run_app, list_app, storm_app, why_app, workers_app};
 ghost use Rattle.cnvm_words.specs.App.{serve_app, emit_app, code_app, with_others, cnvm_app};
 
@@ -79,12 +79,23 @@ fn with_pool<'a>(alloc: Global, command: Command<'a>) -> Result<Command<'a>, All
     command.arg(option_arg(alloc, "from"))
 }
 
+/// A command with the options for how a storm cuts and counts.
+fn with_counting<'a>(alloc: Global, command: Command<'a>) -> Result<Command<'a>, AllocError>
+    requires { (fields_of command).has_globals ≡ false }
+    ensures app { IfOk result (λ r. app_of r ≡ counting (app_of command.entry)) }
+    ensures local { IfOk result (λ r. (fields_of r).has_globals ≡ false) }
+{
+    let command = command.arg(option_arg(alloc, "reach"))?;
+    command.arg(flag_arg(alloc, "plain"))
+}
+
 fn run_command<'a>(alloc: Global) -> Result<Command<'a>, AllocError>
     ensures app { IfOk result (λ r. app_of r ≡ run_app) }
     ensures local { IfOk result (λ r. (fields_of r).has_globals ≡ false) }
 {
     let command = Command::new(alloc, "run").arg(place_arg(alloc, "program"))?;
     let command = command.arg(place_arg(alloc, "script"))?;
+    let command = command.arg(flag_arg(alloc, "strict"))?;
     with_sizes(alloc, with_files(alloc, command)?)
 }
 
@@ -102,8 +113,7 @@ fn storm_command<'a>(alloc: Global) -> Result<Command<'a>, AllocError>
     let command = Command::new(alloc, "storm").arg(place_arg(alloc, "program"))?;
     let command = command.arg(place_arg(alloc, "start"))?;
     let command = command.arg(place_arg(alloc, "count"))?;
-    let command = command.arg(option_arg(alloc, "reach"))?;
-    with_sizes(alloc, command)
+    with_sizes(alloc, with_counting(alloc, command)?)
 }
 
 fn why_command<'a>(alloc: Global) -> Result<Command<'a>, AllocError>

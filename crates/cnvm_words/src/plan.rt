@@ -7,7 +7,8 @@ use std::alloc::AllocError;
 #[derive(Drop)]
 pub enum Plan {
     /// Runs the script's commands on the program. `slots` is from 1 to 65,535, `records` from 1 to
-    /// 4,096 and `ticks` from 1 to 1,000,000.
+    /// 4,096 and `ticks` from 1 to 1,000,000. With `strict` an answer that is a trap or a refusal
+    /// changes the status.
     Run {
         program_path: Text,
         script_path: Text,
@@ -16,9 +17,10 @@ pub enum Plan {
         ticks: u64,
         start_image: Option<Text>,
         end_image: Option<Text>,
+        strict: bool,
     },
     /// Runs the script's commands on the pool of a file, which may be one of the program's former
-    /// text. The sizes are as for `Run`.
+    /// text. The sizes and `strict` are as for `Run`.
     RunPool {
         program_path: Text,
         script_path: Text,
@@ -27,6 +29,7 @@ pub enum Plan {
         ticks: u64,
         pool_path: Text,
         former_path: Option<Text>,
+        strict: bool,
     },
     /// Answers lines as they come, on a new pool in memory. The sizes are as for `Run`.
     Serve {
@@ -49,12 +52,13 @@ pub enum Plan {
         program_path: Text,
     },
     /// Runs a generated script. `start` is at most 2,147,483,647, `count` at most 20,000, and
-    /// `reach` from 1 to 1,000,000.
+    /// `reach` from 1 to 1,000,000. With `plain` more is counted.
     Storm {
         program_path: Text,
         start: u64,
         count: u64,
         reach: u64,
+        plain: bool,
         slots: u64,
         records: u64,
         ticks: u64,

@@ -123,6 +123,7 @@ fn run_plan(alloc: Global, matches: &ArgMatches<'_>) -> Result<Plan, WordsFault>
     let start_image = image_at(alloc, matches, "open")?;
     let end_image = image_at(alloc, matches, "save")?;
     let former_path = image_at(alloc, matches, "from")?;
+    let strict = has_flag(matches, "strict");
     let Some(pool_path) = image_at(alloc, matches, "pool")? else {
         if former_path.is_some() {
             return Err(WordsFault::Usage);
@@ -135,6 +136,7 @@ fn run_plan(alloc: Global, matches: &ArgMatches<'_>) -> Result<Plan, WordsFault>
             ticks,
             start_image,
             end_image,
+            strict,
         });
     };
     if start_image.is_some() || end_image.is_some() {
@@ -148,6 +150,7 @@ fn run_plan(alloc: Global, matches: &ArgMatches<'_>) -> Result<Plan, WordsFault>
         ticks,
         pool_path,
         former_path,
+        strict,
     })
 }
 
@@ -195,6 +198,7 @@ fn storm_plan(alloc: Global, matches: &ArgMatches<'_>) -> Result<Plan, WordsFaul
         start,
         count,
         reach,
+        plain: has_flag(matches, "plain"),
         slots,
         records,
         ticks,

@@ -33,6 +33,6 @@ pub use place::{Place, place_of};
 pub use script::of_line;
 pub use spelled::{Spelled, first_token, is, is_one};
 pub use told::Told;
-pub use trap::{PoolLeft, of_storm_trap, of_trap, of_worker_trap};
+pub use trap::{PoolLeft, of_broken_check, of_storm_trap, of_trap, of_worker_trap};
 pub use words::of_words;
 pub use workers_script::of_workers_line;

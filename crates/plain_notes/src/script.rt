@@ -10,7 +10,7 @@ use std::alloc::{AllocError, Global};
 const COMMANDS: [&[u8]; 6] = [b"call", b"stop", b"fault", b"power", b"show", b"last"];
 
 const COMMANDS_NOTE: &str =
-    "the commands are `call NAME A..`, `stop K`, `fault K`, `power old P..`, `show` and `last`";
+    "write `call NAME A..`, `stop K`, `fault K`, `power old P..`, `show`, `show dead` or `last`";
 
 /// What a refused line of a script needs, and the number of bytes of the line before the word at
 /// fault.
@@ -187,10 +187,19 @@ pub(crate) fn of_shared<'a>(name: &'a [u8], others: &Others<'a>) -> Option<Fault
     if is_one(name, &["stop", "fault"]) {
         return Some(of_event(name, others));
     }
-    if is_one(name, &["show", "last"]) {
+    if is(name, "show") {
+        return Some(of_show(name, others));
+    }
+    if is(name, "last") {
         return Some(of_alone(name, others));
     }
     None
+}
+
+/// A command that takes the word `dead` and no other.
+fn of_show<'a>(name: &'a [u8], others: &Others<'a>) -> Fault<'a> {
+    let at = if is(others.word(0), "dead") { 1 } else { 0 };
+    Fault::of(others.from(at), name, "` takes no word but `dead`", "").remarked(others)
 }
 
 /// A command that takes no words.

@@ -135,6 +135,15 @@ pub fn of_storm_trap(
     told.with(alloc, "so the storm was over: each later call was refused")
 }
 
+/// The message of a storm in which this call of `check` in this round didn't give 1. An empty call
+/// isn't known.
+pub fn of_broken_check(alloc: Global, round: u64, call: &str) -> Result<Told, AllocError> {
+    let call = storm_text(alloc, round, call)?;
+    let what = format!(in alloc; "{call} gave another value than 1")?;
+    let note = "`tools/shrink` prints a short script that shows it";
+    Told::of(alloc, what.as_str(), &[note])
+}
+
 /// The call of a storm in words.
 fn storm_text(alloc: Global, round: u64, call: &str) -> Result<String, AllocError> {
     if call.is_empty() {

@@ -69,8 +69,8 @@ const NUMBERS: [Number; 7] = [SLOTS, LOG, TICKS, WORKER_COUNT, START, COUNT, REA
 /// How the runtime's own names begin, up to a `_`.
 const OWN_HEADS: [&[u8]; 4] = [b"cn", b"cnvm", b"CN", b"CNVM"];
 
-/// The option that takes no value.
-const HEADER: &str = "--header";
+/// The options that take no value.
+const FLAGS: [&[u8]; 3] = [b"--header", b"--strict", b"--plain"];
 
 /// One command: the names of its places, and its options.
 #[derive(Clone, Copy)]
@@ -84,7 +84,14 @@ const RUN: Shape = Shape {
     name: "run",
     places: &["PROGRAM", "SCRIPT"],
     options: &[
-        b"--open", b"--save", b"--pool", b"--from", b"--slots", b"--log", b"--ticks",
+        b"--open",
+        b"--save",
+        b"--pool",
+        b"--from",
+        b"--strict",
+        b"--slots",
+        b"--log",
+        b"--ticks",
     ],
 };
 
@@ -97,7 +104,7 @@ const LIST: Shape = Shape {
 const STORM: Shape = Shape {
     name: "storm",
     places: &["PROGRAM", "START", "COUNT"],
-    options: &[b"--reach", b"--slots", b"--log", b"--ticks"],
+    options: &[b"--reach", b"--plain", b"--slots", b"--log", b"--ticks"],
 };
 
 const WHY: Shape = Shape {
@@ -138,18 +145,20 @@ const COMMANDS: [&[u8]; 8] = [
 ];
 
 /// The commands and the options with their defaults.
-const HELP: [&str; 28] = [
+const HELP: [&str; 30] = [
     "cnvm run PROGRAM SCRIPT          runs the script's calls on a new pool",
     "    SCRIPT                       a file, or - for standard input",
     "    --open IMAGE                 runs them on the pool of a saved image",
     "    --save IMAGE                 saves the pool at the end",
     "    --pool FILE                  keeps the pool in a file, without these two",
     "    --from OLD                   moves that pool from the program's former text",
+    "    --strict                     gives status 10 where an answer is a trap or a refusal",
     "cnvm list PROGRAM                tells of each store whether it is logged",
     "cnvm storm PROGRAM START COUNT   runs rounds of drawn calls and power cuts",
     "    START                        chooses them, from 0 to 2147483647",
     "    COUNT                        how many, from 0 to 20000",
     "    --reach E                    cuts below E events, from 1 to 1000000; without it 32",
+    "    --plain                      counts aborts and broken checks too",
     "cnvm why PROGRAM                 tells why each logged store is logged",
     "cnvm workers PROGRAM SCRIPT      runs the script's calls of several workers",
     "    --workers W                  how many, from 1 to 8; without it 2",
@@ -330,7 +339,7 @@ impl<'a> Read<'a> {
         let (option, value) = parts_of(word);
         let wrong = wrong_option(self.shape, &self.given, option, value);
         self.given.push(option.as_bytes())?;
-        if value.is_none() && option != HEADER {
+        if value.is_none() && !has(&FLAGS, option.as_bytes()) {
             self.open = Some(option);
         }
         Ok(wrong)
@@ -386,7 +395,7 @@ fn wrong_option<'a>(
         return Some(Wrong::new(option, ": is given twice"));
     }
     let value = value?;
-    if option == HEADER {
+    if has(&FLAGS, option.as_bytes()) {
         return Some(Wrong::new(option, ": takes no value"));
     }
     wrong_value(&NUMBERS, option, value)

@@ -1,6 +1,7 @@
 -- The rounds of a storm, one after another.
 use Rattle.std.proofs.Common.{◌≡◌, ℕ, suc, ◌-◌, ◌^◌, ◌<◌, min, List, [], ◌∷◌, Some}
-use Rattle.std.proofs.Common.{length, Result, Ok, Err, OnErr, sym, subst, arith}
+use Rattle.std.proofs.Common.{length, Result, Ok, Err, OnErr, IfOk, Bool, Option, inl, inr, sym}
+use Rattle.std.proofs.Common.{subst, arith}
 use Rattle.pmem.specs.Device.{Device}
 use Rattle.c_tree.specs.ItemTree.{FunctionTree}
 use Rattle.c_types.specs.Shapes.{transactions_of}
@@ -10,7 +11,12 @@ use Rattle.cnvm_session.specs.declared.mode.Mode.{Mode}
 use Rattle.cnvm_session.specs.declared.program.Program.{Program}
 use Rattle.session_run.specs.declared.storm.StormOrder.{StormOrder}
 use Rattle.session_run.specs.declared.storm.Tally.{Tally}
-use Rattle.session_run.specs.Storms.{CountsAnswers, Rounds, RoundsPart, RoundsOf, RagesPart}
+use Rattle.session_run.specs.declared.writing.Unwritten.{Unwritten}
+use Rattle.session_run.specs.declared.writing.Unwritten.TheVariants.{WriteFault}
+use Rattle.session_run.specs.Stormed.{no_tally, any_broken}
+use Rattle.session_run.specs.Storms.{CountsAnswers, Rounds, RoundsPart, RoundsOf, Rages, RagesPart}
+use Rattle.session_run.specs.Storms.{TallyAll, TallyPart, StormsAll, StormsPart, StormStarves}
+use Rattle.session_run.proofs.Running.{keeps_same}
 
 -- one round, followed by the rest
 pub rounds_more : (p : Program) (reach x y n less : ℕ) (cs : List Command) (t t1 t' : Tally)
@@ -81,3 +87,35 @@ rages_part (Ok v) p order x t m d d' k k' same some part = tt
 rages_part (Err e) p order x t m d d' k k' same some part =
     some_rages p order t m d d' k k' some
     (subst (λ (y : ℕ). RoundsPart p order.reach y order.count t m d k d' k') same part)
+
+-- there was no memory for all rounds
+pub starved : (p : Program) (order : StormOrder) (t : Tally) (m : Mode) (d d' : Device)
+    (w : Option (List ℕ)) (k k' : ℕ) → t ≡ no_tally → RagesPart p order t m d k d' k'
+    → StormStarves p order m d w k d' w k'
+starved p order t m d d' w k k' none part =
+    inl (keeps_same w, subst (λ (s : Tally). RagesPart p order s m d k d' k') none part)
+
+-- all rounds are run, and then the summary is written, or a part of it
+module _ (p : Program) (order : StormOrder) (s t : Tally) (m m1 : Mode) (d d1 d' : Device)
+    (w w' : Option (List ℕ)) (k k1 k' : ℕ) (none : s ≡ no_tally)
+    (rages : Rages p order s m d k t m1 d1 k1) where
+  from_none : Rages p order no_tally m d k t m1 d1 k1
+  from_none = subst (λ (u : Tally). Rages p order u m d k t m1 d1 k1) none rages
+
+  pub storms_all : (r : Result Bool Unwritten)
+      → IfOk r (λ unmet. TallyAll p order.plain t m1 d1 w k1 d' w' k' × (unmet ≡ any_broken t))
+      → IfOk r (λ unmet. StormsAll p order unmet m d w k d' w' k')
+  storms_all (Ok unmet) all = (t, m1, d1, k1, from_none, all.0, all.1)
+  storms_all (Err why) all = tt
+
+  pub storms_part : (r : Result Bool Unwritten)
+      → OnErr r (TallyPart p order.plain t m1 d1 w k1 d' w' k')
+      → OnErr r (StormStarves p order m d w k d' w' k')
+  storms_part (Ok unmet) part = tt
+  storms_part (Err why) part = inr (t, m1, d1, k1, from_none, part)
+
+  pub storms_fault : (r : Result Bool Unwritten) → r ≡ Err WriteFault
+      → OnErr r (TallyPart p order.plain t m1 d1 w k1 d' w' k') → StormsPart p order m d w k d' w' k'
+  storms_fault r is part =
+      let fault = subst (λ (x : Result Bool Unwritten). OnErr x (TallyPart p order.plain t m1 d1 w k1
+      d' w' k')) is part in (t, m1, d1, k1, from_none, fault)

@@ -1,7 +1,7 @@
 -- A run on the pool of a file: its lines lie in a device that is mirrored in the file. It ends as a
 -- run on an image's pool does; or the file refused something, and the run ended there.
 use Rattle.std.specs.Prelude.{ℕ, ℤ, List, ◌++◌, Option, ◌≡◌, ◌⊎◌, ◌≢◌, Result}
-use Rattle.std.specs.Prelude.{◌*◌, codes}
+use Rattle.std.specs.Prelude.{◌*◌, codes, Bool, true, false}
 use Rattle.std.specs.Prelude.{Ok, Err}
 use Rattle.std.specs.Io.KnownBytes.{Appends}
 use Rattle.pmem.specs.Device.{Device}
@@ -29,13 +29,14 @@ use Rattle.session_run.specs.declared.held.Unheld.TheVariants as unheld
 use Rattle.session_run.specs.declared.status.Status.{Status}
 use Rattle.session_run.specs.declared.status.Status.TheVariants as status
 use Rattle.session_run.specs.Commands.{RunsAndWrites, RunsPart, OpenedAs}
+use Rattle.session_run.specs.Strict.{answered_status, IsAnswered}
 
 -- Some first commands are answered, perhaps all or none.
-abbrev pub RunsSome : Program → List Command → Mode → Device → Option (List ℕ) → ℕ → Device
+abbrev pub RunsSome : Program → List Command → Mode → Device → Option (List ℕ) → ℕ → Bool → Device
     → Option (List ℕ) → ℕ → Type 0
-RunsSome program commands m d w k d' w' k' =
-    (first : List Command) × (rest : List Command) × (commands ≡ first ++ rest)
-    × RunsAndWrites program first m d w k d' w' k'
+RunsSome program commands m d w k u d' w' k' =
+    (first : List Command) × (rest : List Command) × (commands ≡ first ++ rest) × (u' : Bool)
+    × RunsAndWrites program first m d w k u d' w' k' u'
 
 -- the pool is opened, its answer is written, and some first commands are answered
 abbrev pub OpensSome : Program → List Command → List ℤ → Option (List ℕ) → Option (List ℕ)
@@ -43,7 +44,7 @@ abbrev pub OpensSome : Program → List Command → List ℤ → Option (List �
 OpensSome program commands words w w' d d' k k' =
     (answer : Answer) × (m : Mode) × (b : Device) × (w1 : Option (List ℕ)) × (k1 : ℕ)
     × Opens program words d answer m b k k1
-    × Appends w w1 (answer_text answer) × RunsSome program commands m b w1 k1 d' w' k'
+    × Appends w w1 (answer_text answer) × RunsSome program commands m b w1 k1 false d' w' k'
 
 -- how the answer at hand is written where a run ends at it, with the file in this state
 abbrev pub EndsAt : Unheld → MirrorState → Option (List ℕ) → Option (List ℕ) → List ℕ → Type 0
@@ -60,11 +61,11 @@ BreaksOff unheld.NoMemory s program commands m d w k d' w' k' =
 BreaksOff unheld.WriteFault s program commands m d w k d' w' k' =
     RunsPart program commands m d w k d' w' k'
 BreaksOff unheld.GivenUp s program commands m d w k d' w' k' =
-    RunsSome program commands m d w k d' w' k' × (s ≢ Awake)
+    RunsSome program commands m d w k false d' w' k' × (s ≢ Awake)
 
 -- the status of commands that are all answered, or not
-abbrev pub status_of : Result Unit Unheld → Status
-status_of (Ok u) = status.Done
+abbrev pub status_of : Result Bool Unheld → Status
+status_of (Ok unmet) = answered_status unmet
 status_of (Err unheld.NoMemory) = status.NoMemory
 status_of (Err unheld.WriteFault) = status.WriteFault
 status_of (Err unheld.GivenUp) = status.DeviceFault
@@ -80,21 +81,23 @@ OpensTold program words m s w w' d d' k k' =
 abbrev pub AnswersAs : Program → List Command → Mode → Status → MirrorState → Option (List ℕ)
     → Option (List ℕ) → Device → Device → (k k' : ℕ) → Type 0
 AnswersAs program commands m status.Done s w w' d d' k k' =
-    RunsAndWrites program commands m d w k d' w' k' × (s ≡ Awake)
+    RunsAndWrites program commands m d w k false d' w' k' false × (s ≡ Awake)
+AnswersAs program commands m status.Unmet s w w' d d' k k' =
+    RunsAndWrites program commands m d w k false d' w' k' true × (s ≡ Awake)
 AnswersAs program commands m status.NoMemory s w w' d d' k k' =
     RunsPart program commands m d w k d' w' k'
 AnswersAs program commands m status.WriteFault s w w' d d' k k' =
     RunsPart program commands m d w k d' w' k'
 AnswersAs program commands m status.DeviceFault s w w' d d' k k' =
-    RunsSome program commands m d w k d' w' k' × (s ≢ Awake)
+    RunsSome program commands m d w k false d' w' k' × (s ≢ Awake)
 AnswersAs program commands m _ s w w' d d' k k' = ⊥
 
 -- How a run on the pool of a file ends, which holds these words, by its status and the file's
--- state. After status 0 the file mirrors the device.
+-- state. After status 0 or 10 the file mirrors the device.
 abbrev pub HeldAs : Program → List Command → List ℤ → Status → MirrorState → Option (List ℕ)
     → Option (List ℕ) → Device → Device → (k k' : ℕ) → Type 0
 HeldAs program commands words result s w w' d d' k k' =
-    (result ≡ status.Done → s ≡ Awake)
+    (IsAnswered result → s ≡ Awake)
     × (OpenedAs program commands words result w w' d d' k k'
     ⊎ ((result ≡ status.DeviceFault) × (s ≢ Awake)
     × OpensSome program commands words w w' d d' k k'))
@@ -106,10 +109,13 @@ created_line = codes "created\n"
 -- Commands are answered on a pool whose file was just made: this line is written, and then all of
 -- them are answered, or a part, or some until the file refused something. `none` says that no
 -- command was run.
-abbrev pub FirstTold : (all part some : (told : Option (List ℕ)) → Type 0) → (none : Type 0)
-    → Status → Option (List ℕ) → Option (List ℕ) → Type 0
+abbrev pub FirstTold : (all : (unmet : Bool) → (told : Option (List ℕ)) → Type 0)
+    → (part some : (told : Option (List ℕ)) → Type 0) → (none : Type 0) → Status
+    → Option (List ℕ) → Option (List ℕ) → Type 0
 FirstTold all part some none status.Done w w' =
-    (told : Option (List ℕ)) × Appends w told created_line × all told
+    (told : Option (List ℕ)) × Appends w told created_line × all false told
+FirstTold all part some none status.Unmet w w' =
+    (told : Option (List ℕ)) × Appends w told created_line × all true told
 FirstTold all part some none status.NoMemory w w' =
     (told : Option (List ℕ)) × Appends w told created_line × part told
 FirstTold all part some none status.WriteFault w w' =
@@ -124,9 +130,10 @@ abbrev pub NewAs : Program → List Command → Status → MirrorState → Optio
     → Option (List ℕ) → Device → Device → (k k' : ℕ) → Type 0
 NewAs program commands result s w w' d d' k k' =
     FirstTold
-    (λ told. RunsAndWrites program commands Ready d told k d' w' k' × (s ≡ Awake))
+    (λ unmet told. RunsAndWrites program commands Ready d told k false d' w' k' unmet
+    × (s ≡ Awake))
     (λ told. RunsPart program commands Ready d told k d' w' k')
-    (λ told. RunsSome program commands Ready d told k d' w' k' × (s ≢ Awake))
+    (λ told. RunsSome program commands Ready d told k false d' w' k' × (s ≢ Awake))
     ((d' ≡ d) × (k' ≡ k)) result w w'
 
 -- A pool is created in memory, and these are its words; or it couldn't be, for this cause; or it

@@ -7,4 +7,5 @@ pub mod Saved
 pub mod StatusNumber
 pub mod Stormed
 pub mod Storms
+pub mod Strict
 pub mod Told

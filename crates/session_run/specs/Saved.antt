@@ -25,4 +25,6 @@ abbrev pub SavedAs : (ran : Status) → Status → Option (List ℕ) → Option 
     → Device → Type 0
 SavedAs status.Done result o o' d d' =
     (d' ≡ on_again d) × TellsAs status.Done (saved_bytes d) result o o'
+SavedAs status.Unmet result o o' d d' =
+    (d' ≡ on_again d) × TellsAs status.Unmet (saved_bytes d) result o o'
 SavedAs ran result o o' d d' = (result ≡ ran) × (d' ≡ d) × Keeps o o'

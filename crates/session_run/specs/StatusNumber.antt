@@ -14,3 +14,4 @@ status_number status.WriteFault = 6
 status_number status.DeviceFault = 7
 status_number status.Image = 8
 status_number status.PoolBusy = 9
+status_number status.Unmet = 10

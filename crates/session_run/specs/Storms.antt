@@ -1,6 +1,6 @@
 -- A storm: rounds of generated commands, run on a new pool.
 use Rattle.std.specs.Prelude.{ℕ, zero, suc, ◌<◌, ◌-◌, ◌^◌, min, List, [], ◌∷◌, Option, Some, ◌≡◌}
-use Rattle.std.specs.Prelude.{◌⊎◌}
+use Rattle.std.specs.Prelude.{◌⊎◌, Bool}
 use Rattle.std.specs.Io.KnownBytes.{Appends, Keeps}
 use Rattle.nvm_base.specs.Parts.{AppendsPart}
 use Rattle.pmem.specs.Device.{Device}
@@ -20,7 +20,7 @@ use Rattle.session_run.specs.declared.storm.StormOrder.{StormOrder}
 use Rattle.session_run.specs.declared.storm.Tally.{Tally}
 use Rattle.session_run.specs.AsStatus.{AsStatus}
 use Rattle.session_run.specs.Made.{Created, Uncreated}
-use Rattle.session_run.specs.Stormed.{counted, no_tally, tally_text}
+use Rattle.session_run.specs.Stormed.{counted, no_tally, summary_text, any_broken}
 
 -- commands are run, and each answer is counted
 abbrev pub CountsAnswers : Program → List Command → Tally → Mode → Device → ℕ → Tally → Mode
@@ -68,41 +68,41 @@ RagesPart program order t m d k d' k' =
     × Rages program (record order { count = fewer }) t m d k t' m' d' k'
 
 -- the summary is written, and then the answer of `last`
-abbrev pub TallyAll : Program → Tally → Mode → Device → Option (List ℕ) → ℕ → Device
-    → Option (List ℕ) → ℕ → Type 0
-TallyAll program t m d w k d' w' k' =
-    (a : Answer) × (n : Mode) × (w1 : Option (List ℕ)) × Appends w w1 (tally_text t)
+abbrev pub TallyAll : Program → (plain : Bool) → Tally → Mode → Device → Option (List ℕ) → ℕ
+    → Device → Option (List ℕ) → ℕ → Type 0
+TallyAll program plain t m d w k d' w' k' =
+    (a : Answer) × (n : Mode) × (w1 : Option (List ℕ)) × Appends w w1 (summary_text plain t)
     × Commanded program command.Last m d a n d' k k'
     × Appends w1 w' (answer_text a)
 
 -- a part of the summary is written, or all of it and a part of the answer of `last`
-abbrev pub TallyPart : Program → Tally → Mode → Device → Option (List ℕ) → ℕ → Device
-    → Option (List ℕ) → ℕ → Type 0
-TallyPart program t m d w k d' w' k' =
-    (AppendsPart w w' (tally_text t) × (d' ≡ d) × (k' ≡ k))
-    ⊎ ((a : Answer) × (n : Mode) × (w1 : Option (List ℕ)) × Appends w w1 (tally_text t)
+abbrev pub TallyPart : Program → (plain : Bool) → Tally → Mode → Device → Option (List ℕ) → ℕ
+    → Device → Option (List ℕ) → ℕ → Type 0
+TallyPart program plain t m d w k d' w' k' =
+    (AppendsPart w w' (summary_text plain t) × (d' ≡ d) × (k' ≡ k))
+    ⊎ ((a : Answer) × (n : Mode) × (w1 : Option (List ℕ)) × Appends w w1 (summary_text plain t)
     × Commanded program command.Last m d a n d' k k'
     × AppendsPart w1 w' (answer_text a))
 
--- all rounds are run, and then this is written
-abbrev pub StormsAll : Program → StormOrder → Mode → Device → Option (List ℕ) → ℕ → Device
-    → Option (List ℕ) → ℕ → Type 0
-StormsAll program order m d w k d' w' k' =
+-- all rounds are run, and then this is written; a check was broken or not
+abbrev pub StormsAll : Program → StormOrder → (unmet : Bool) → Mode → Device → Option (List ℕ) → ℕ
+    → Device → Option (List ℕ) → ℕ → Type 0
+StormsAll program order unmet m d w k d' w' k' =
     (t : Tally) × (m1 : Mode) × (d1 : Device) × (k1 : ℕ) × Rages program order no_tally m d k
     t m1 d1 k1
-    × TallyAll program t m1 d1 w k1 d' w' k'
+    × TallyAll program order.plain t m1 d1 w k1 d' w' k' × (unmet ≡ any_broken t)
 
 abbrev pub StormsPart : Program → StormOrder → Mode → Device → Option (List ℕ) → ℕ → Device
     → Option (List ℕ) → ℕ → Type 0
 StormsPart program order m d w k d' w' k' =
     (t : Tally) × (m1 : Mode) × (d1 : Device) × (k1 : ℕ) × Rages program order no_tally m d k
     t m1 d1 k1
-    × TallyPart program t m1 d1 w k1 d' w' k'
+    × TallyPart program order.plain t m1 d1 w k1 d' w' k'
 
-abbrev pub StormedAll : Program → StormOrder → Option (List ℕ) → Option (List ℕ) → Device
-    → Device → (k k' : ℕ) → Type 0
-StormedAll program order w w' d d' k k' =
-    (b : Device) × Created program d b × StormsAll program order Ready b w k d' w' k'
+abbrev pub StormedAll : Program → StormOrder → (unmet : Bool) → Option (List ℕ)
+    → Option (List ℕ) → Device → Device → (k k' : ℕ) → Type 0
+StormedAll program order unmet w w' d d' k k' =
+    (b : Device) × Created program d b × StormsAll program order unmet Ready b w k d' w' k'
 
 abbrev pub StormedPart : Program → StormOrder → Option (List ℕ) → Option (List ℕ) → Device
     → Device → (k k' : ℕ) → Type 0
@@ -128,5 +128,5 @@ abbrev pub StormedAs : Program → StormOrder → Status → Option (List ℕ) �
 StormedAs program order result w w' d d' k k' =
     AsStatus (λ why. Uncreated program why w w' d d' k k')
     (StormedStarved program order w w' d d' k k')
-    (StormedAll program order w w' d d' k k')
+    (λ unmet. StormedAll program order unmet w w' d d' k k')
     (StormedPart program order w w' d d' k k') result

@@ -1,6 +1,7 @@
 //! Runs commands on the pool of a file.
 
-ghost use Rattle.std.specs.Prelude.{◌≡◌, ◌≢◌, ◌≤◌, ◌*◌, [], OnOk, OnErr, IfOk, IfErr, IsErrOf};
+ghost use Rattle.std.specs.Prelude.{◌≡◌, ◌≢◌, ◌≤◌, ◌*◌, [], false, OnOk, OnErr, IfOk, IfErr};
+ghost use Rattle.std.specs.Prelude.{IsErrOf};
 ghost use Rattle.std.specs.Io.KnownBytes.{Appends};
 ghost use Rattle.nvm_base.specs.Rose.{Rose};
 ghost use Rattle.cache_model.specs.Cache.{view};
@@ -20,6 +21,7 @@ ghost use Rattle.session_run.specs.Held.{OpensTold, AnswersAs, NewAs};
 
 use crate::image::words_of;
 use crate::status::Status;
+use crate::strict::unmet_after;
 use crate::writing::{Unwritten, put_answer};
 use cnvm_script::{Command, Script};
 use cnvm_session::{Answer, Program, Session, StartFault, Traps, create, open_pool, resume};
@@ -68,7 +70,8 @@ fn answer_kept<K: Sink, N: Lines + Drop, F: LineFile + Drop>(
 }
 
 /// Runs the commands in order, and writes each answer before the next command. It ends at the
-/// first answer after which the device isn't mirrored in its file.
+/// first answer after which the device isn't mirrored in its file. Tells whether one of the answers
+/// is a trap or a refusal.
 fn answer_held<K: Sink, N: Lines + Drop, F: LineFile + Drop, L: Ledger>(
     alloc: Global,
     program: &Program,
@@ -78,13 +81,13 @@ fn answer_held<K: Sink, N: Lines + Drop, F: LineFile + Drop, L: Ledger>(
     out: &mut K,
     dev: &mut FilePmem<N, F>,
     steps: &mut Steps<L>,
-) -> Result<(), Unheld>
+) -> Result<bool, Unheld>
     requires lines { (file_device N.memory dev.old).lines
         ≡ pool_lines program.now.image.parts.sizes }
     requires awake { dev.old.link.state ≡ Awake }
-    ensures whole { OnOk result (RunsAndWrites program.now commands.now session.old
-        (file_device N.memory dev.old) (K.written out.old) steps.old (file_device N.memory dev.new)
-        (K.written out.new) steps.new) }
+    ensures whole { IfOk result (λ unmet. RunsAndWrites program.now commands.now session.old
+        (file_device N.memory dev.old) (K.written out.old) steps.old false
+        (file_device N.memory dev.new) (K.written out.new) steps.new unmet) }
     ensures broken { IfErr result (λ why. BreaksOff why dev.new.link.state program.now commands.now
         session.old (file_device N.memory dev.old) (K.written out.old) steps.old
         (file_device N.memory dev.new) (K.written out.new) steps.new) }
@@ -94,22 +97,24 @@ fn answer_held<K: Sink, N: Lines + Drop, F: LineFile + Drop, L: Ledger>(
     ensures lines { (file_device N.memory dev.new).lines
         ≡ pool_lines program.now.image.parts.sizes }
 {
+    let mut unmet = false;
     for given in commands {
         let answer = session.command(alloc, program, given, dev, steps);
         traps.saw(&answer, session);
+        unmet = unmet_after(unmet, &answer);
         if let Err(why) = answer_kept(alloc, &answer, out, dev) {
             return Err(why);
         }
     }
-    Ok(())
+    Ok(unmet)
 }
 
 /// The status of a run of commands.
-fn status_of(answered: Result<(), Unheld>) -> Status
+fn status_of(answered: Result<bool, Unheld>) -> Status
     ensures { result ≡ status_of answered }
 {
     match answered {
-        Ok(()) => Status::Done,
+        Ok(unmet) => Status::answered(unmet),
         Err(Unheld::NoMemory) => Status::NoMemory,
         Err(Unheld::WriteFault) => Status::WriteFault,
         Err(Unheld::GivenUp) => Status::DeviceFault,
@@ -170,6 +175,7 @@ pub fn open_held<K: Sink, N: Lines + Drop, F: LineFile + Drop, L: Ledger>(
         dev.new.link.state (K.written out.old) (K.written out.new) (file_device N.memory dev.old)
         (file_device N.memory dev.new) steps.old steps.new) }
     ensures undone { IsErrOf result Status.Done → ⊥ }
+    ensures unmet { IsErrOf result Status.Unmet → ⊥ }
     ensures read { IsErrOf result Status.ReadFault → ⊥ }
     ensures usage { IsErrOf result Status.Usage → ⊥ }
     ensures busy { IsErrOf result Status.PoolBusy → ⊥ }

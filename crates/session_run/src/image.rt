@@ -16,16 +16,24 @@ use pool_layout::{Sizes, image_bytes, pool_lines};
 use std::alloc::{AllocError, Global};
 
 /// Saves the newest version of every line of a pool of these sizes. A device that is off is first
-/// powered on, and each line keeps its newest version.
+/// powered on, and each line keeps its newest version. The status is this one, unless there was no
+/// memory or the sink failed.
 #[tactic(auto, using(crate::proofs::Running::keeps_same))]
-pub fn save<O: Sink, P: Pmem>(alloc: Global, sizes: &Sizes, out: &mut O, dev: &mut P) -> Status
+pub fn save<O: Sink, P: Pmem>(
+    alloc: Global,
+    sizes: &Sizes,
+    status: Status,
+    out: &mut O,
+    dev: &mut P,
+) -> Status
     requires lines { (P.device dev.old).lines ≡ sizes_of.pool_lines sizes.now }
     ensures power { P.device dev.new ≡ on_again (P.device dev.old) }
-    ensures saved { TellsAs Status.Done (saved_bytes (P.device dev.old)) result (O.written out.old)
+    ensures saved { TellsAs status (saved_bytes (P.device dev.old)) result (O.written out.old)
         (O.written out.new) }
-    ensures status { (result ≡ Status.Done)
+    ensures status { (result ≡ status)
         ⊎ ((result ≡ Status.NoMemory) ⊎ (result ≡ Status.WriteFault)) }
-    ensures write { result ≡ Status.WriteFault → Rose (O.faults out.old) (O.faults out.new) }
+    ensures write { result ≡ Status.WriteFault → (status ≡ Status.WriteFault)
+        ⊎ Rose (O.faults out.old) (O.faults out.new) }
 {
     power_on(alloc, dev);
     let Ok(words) = words_of(alloc, sizes, dev) else {
@@ -35,7 +43,7 @@ pub fn save<O: Sink, P: Pmem>(alloc: Global, sizes: &Sizes, out: &mut O, dev: &m
         return Status::NoMemory;
     };
     match write_whole(out, bytes.as_slice()) {
-        Ok(()) => Status::Done,
+        Ok(()) => status,
         Err(_) => Status::WriteFault,
     }
 }

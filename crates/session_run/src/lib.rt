@@ -11,6 +11,7 @@ mod moving;
 mod runs;
 mod status;
 mod storm;
+mod strict;
 mod writing;
 
 pub use held::{CREATED, answer_script, create_held, open_held, run_held, run_new, start_held};
@@ -19,4 +20,5 @@ pub use moving::move_held;
 pub use runs::{run_created, run_from};
 pub use status::Status;
 pub use storm::{StormOrder, Tally, storm_over};
+pub use strict::strict_status;
 pub use writing::{put, tell};

@@ -5,6 +5,7 @@ ghost use Rattle.nvm_base.specs.Rose.{Rose};
 ghost use Rattle.pmem.specs.Device as device;
 ghost use Rattle.pool_layout.specs.Sizes.{pool_lines};
 ghost use Rattle.session_run.specs.Commands.{CommandsEnd, RanAs, OpenedAs};
+ghost use Rattle.session_run.specs.Strict.{IsAnswered};
 
 use crate::commands::answer_all;
 use crate::status::Status;
@@ -35,7 +36,7 @@ pub fn run_created<K: Sink, P: Pmem, L: Ledger>(
         → device.FaultsRose (P.device dev.old).faults (P.device dev.new).faults }
     ensures ran { RanAs program.now script.now result (K.written out.old)
         (K.written out.new) (P.device dev.old) (P.device dev.new) steps.old steps.new }
-    ensures lines { result ≡ Status.Done
+    ensures lines { IsAnswered result
         → (P.device dev.new).lines ≡ pool_lines program.now.image.parts.sizes }
 {
     let mut session = match create(program, dev) {
@@ -53,7 +54,7 @@ pub fn run_created<K: Sink, P: Pmem, L: Ledger>(
         dev,
         steps,
     ) {
-        Ok(()) => Status::Done,
+        Ok(unmet) => Status::answered(unmet),
         Err(Unwritten::NoMemory) => Status::NoMemory,
         Err(Unwritten::WriteFault) => Status::WriteFault,
     }
@@ -79,7 +80,7 @@ pub fn run_from<K: Sink, P: Pmem, L: Ledger>(
     ensures ran { OpenedAs program.now script.now words.now result
         (K.written out.old) (K.written out.new) (P.device dev.old) (P.device dev.new) steps.old
         steps.new }
-    ensures lines { result ≡ Status.Done
+    ensures lines { IsAnswered result
         → (P.device dev.new).lines ≡ pool_lines program.now.image.parts.sizes }
 {
     let (mut session, answer) = match start_from(alloc, program, words, dev, steps) {
@@ -108,7 +109,7 @@ fn run_commands<K: Sink, P: Pmem, L: Ledger>(
 ) -> Status
     requires lines { (P.device dev.old).lines
         ≡ pool_lines program.now.image.parts.sizes }
-    ensures status { (result ≡ Status.Done)
+    ensures status { IsAnswered result
         ⊎ ((result ≡ Status.NoMemory) ⊎ (result ≡ Status.WriteFault)) }
     ensures write { result ≡ Status.WriteFault → Rose (K.faults out.old) (K.faults out.new) }
     ensures ran { CommandsEnd program.now script.now result session.old
@@ -127,7 +128,7 @@ fn run_commands<K: Sink, P: Pmem, L: Ledger>(
         dev,
         steps,
     ) {
-        Ok(()) => Status::Done,
+        Ok(unmet) => Status::answered(unmet),
         Err(Unwritten::NoMemory) => Status::NoMemory,
         Err(Unwritten::WriteFault) => Status::WriteFault,
     }

@@ -2,6 +2,7 @@
 
 ghost use Rattle.std.specs.Prelude.{◌≡◌};
 ghost use Rattle.session_run.specs.StatusNumber.{status_number};
+ghost use Rattle.session_run.specs.Strict.{answered_status};
 
 /// How a run ended. Its number is the program's exit status.
 #[derive(Clone, Copy, PartialEq, Eq)]
@@ -27,9 +28,19 @@ pub enum Status {
     Image,
     /// Another process holds the pool's file.
     PoolBusy,
+    /// As `Done`, but an answer isn't as it should be: of a run a trap or a refusal, of a storm a
+    /// `check` that isn't 1.
+    Unmet,
 }
 
 impl Status {
+    /// The status of commands that are all answered, by whether one of the answers is unmet.
+    pub(crate) fn answered(unmet: bool) -> Status
+        ensures { result ≡ answered_status unmet }
+    {
+        if unmet { Status::Unmet } else { Status::Done }
+    }
+
     /// The exit status.
     pub fn number(self) -> u8
         ensures { result ≡ status_number self }
@@ -45,6 +56,7 @@ impl Status {
             Status::DeviceFault => 7,
             Status::Image => 8,
             Status::PoolBusy => 9,
+            Status::Unmet => 10,
         }
     }
 }

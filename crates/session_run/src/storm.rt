@@ -8,8 +8,9 @@ ghost use Rattle.nvm_base.specs.Rose.{Rose};
 ghost use Rattle.pmem.specs.Device as device;
 ghost use Rattle.pool_layout.specs.Sizes.{pool_lines};
 ghost use Rattle.c_types.specs.Shapes.{transactions_of};
-ghost use Rattle.session_run.specs.Stormed.{command_counted, answer_counted, counted, with_count};
-ghost use Rattle.session_run.specs.Stormed.{tally_text, no_tally};
+ghost use Rattle.session_run.specs.Stormed.{command_counted, answer_counted, broken_counted};
+ghost use Rattle.session_run.specs.Stormed.{counted, is_check, is_broken, any_broken, with_count};
+ghost use Rattle.session_run.specs.Stormed.{tally_text, with_plain, summary_text, no_tally};
 ghost use Rattle.session_run.specs.Storms.{CountsAnswers, Rounds, RoundsPart, Rages};
 ghost use Rattle.session_run.specs.Storms.{RagesPart, TallyAll, TallyPart, StormsAll};
 ghost use Rattle.session_run.specs.Storms.{StormsPart, StormStarves, StormedAs};
@@ -24,15 +25,18 @@ use std::alloc::{AllocError, Global};
 use std::sync::ledger::Ledger;
 
 /// What a storm is asked to run: the rounds that `start` chooses, `count` of them, each cut after
-/// fewer events than `reach`.
+/// fewer events than `reach`. With `plain` it also writes how many calls were rolled back, and how
+/// many checks were broken.
 #[derive(Clone, Copy)]
 pub struct StormOrder {
     pub start: u64,
     pub count: u64,
     pub reach: u64,
+    pub plain: bool,
 }
 
-/// How many commands were answered in each way.
+/// How many commands were answered in each way. `broken` are the calls of a transaction `check`
+/// that gave another value than 1.
 #[derive(Clone, Copy, PartialEq, Eq)]
 pub struct Tally {
     pub calls: u64,
@@ -42,6 +46,8 @@ pub struct Tally {
     pub none: u64,
     pub trapped: u64,
     pub other: u64,
+    pub aborted: u64,
+    pub broken: u64,
 }
 
 impl Tally {
@@ -56,6 +62,8 @@ impl Tally {
             none: 0,
             trapped: 0,
             other: 0,
+            aborted: 0,
+            broken: 0,
         }
     }
 
@@ -65,6 +73,7 @@ impl Tally {
     {
         self.count_command(command);
         self.count_answer(answer);
+        self.count_broken(command, answer);
     }
 
     fn count_command(&mut self, command: &Command)
@@ -76,6 +85,7 @@ impl Tally {
             Command::Fault(_) => (),
             Command::Power(_) => (),
             Command::Show => (),
+            Command::ShowDead => (),
             Command::Last => (),
         }
     }
@@ -93,8 +103,40 @@ impl Tally {
             Answer::Trap(_) | Answer::RecoveredTrap(_) => {
                 self.trapped = self.trapped.saturating_add(1)
             }
+            Answer::Aborted(_) => {
+                self.other = self.other.saturating_add(1);
+                self.aborted = self.aborted.saturating_add(1)
+            }
             _ => self.other = self.other.saturating_add(1),
         }
+    }
+
+    fn count_broken(&mut self, command: &Command, answer: &Answer)
+        ensures { self.new ≡ broken_counted command.now answer.now self.old }
+    {
+        if is_broken(command, answer) {
+            self.broken = self.broken.saturating_add(1);
+        }
+    }
+}
+
+/// Whether this is a call of a transaction named `check`.
+fn is_check(command: &Command) -> bool
+    ensures { result ≡ is_check command.now }
+{
+    match command {
+        Command::Call { name, .. } => name.as_str() == "check",
+        _ => false,
+    }
+}
+
+/// Whether this is such a call that gave another value than 1.
+fn is_broken(command: &Command, answer: &Answer) -> bool
+    ensures { result ≡ is_broken command.now answer.now }
+{
+    match answer {
+        Answer::Done { value, .. } => *value != 1 && is_check(command),
+        _ => false,
     }
 }
 
@@ -123,13 +165,14 @@ pub fn storm_over<K: Sink, P: Pmem, L: Ledger>(
         Err(StartFault::NoMemory) => return Status::NoMemory,
     };
     match storm(alloc, program, order, &mut session, traps, out, dev, steps) {
-        Ok(()) => Status::Done,
+        Ok(unmet) => Status::answered(unmet),
         Err(Unwritten::NoMemory) => Status::NoMemory,
         Err(Unwritten::WriteFault) => Status::WriteFault,
     }
 }
 
-/// Runs the rounds, and writes the summary and the answer of `last`.
+/// Runs the rounds, and writes the summary and the answer of `last`. Tells whether a check was
+/// broken.
 fn storm<K: Sink, P: Pmem, L: Ledger>(
     alloc: Global,
     program: &Program,
@@ -139,11 +182,12 @@ fn storm<K: Sink, P: Pmem, L: Ledger>(
     out: &mut K,
     dev: &mut P,
     steps: &mut Steps<L>,
-) -> Result<(), Unwritten>
+) -> Result<bool, Unwritten>
     requires lines { (P.device dev.old).lines ≡ pool_lines program.now.image.parts.sizes }
     requires reach { 1 ≤ order.reach }
-    ensures whole { OnOk result (StormsAll program.now order session.old (P.device dev.old)
-        (K.written out.old) steps.old (P.device dev.new) (K.written out.new) steps.new) }
+    ensures whole { IfOk result (λ unmet. StormsAll program.now order unmet session.old
+        (P.device dev.old) (K.written out.old) steps.old (P.device dev.new) (K.written out.new)
+        steps.new) }
     ensures part { OnErr result (StormStarves program.now order session.old
         (P.device dev.old) (K.written out.old) steps.old (P.device dev.new) (K.written out.new)
         steps.new) }
@@ -154,39 +198,52 @@ fn storm<K: Sink, P: Pmem, L: Ledger>(
         → Rose (K.faults out.old) (K.faults out.new) }
 {
     let mut tally = Tally::new();
-    if rounds(
+    match rounds(
         alloc, program, order, session, traps, &mut tally, dev, steps,
-    )
-    .is_err()
-    {
-        return Err(Unwritten::NoMemory);
+    ) {
+        Ok(()) => put_counts(
+            alloc,
+            program,
+            &tally,
+            order.plain,
+            session,
+            out,
+            dev,
+            steps,
+        ),
+        Err(_) => Err(Unwritten::NoMemory),
     }
-    put_counts(alloc, program, &tally, session, out, dev, steps)
 }
 
-/// Writes the summary and the answer of `last`.
+/// Writes the summary and the answer of `last`. Tells whether a check was broken.
 fn put_counts<K: Sink, P: Pmem, L: Ledger>(
     alloc: Global,
     program: &Program,
     tally: &Tally,
+    plain: bool,
     session: &mut Session,
     out: &mut K,
     dev: &mut P,
     steps: &mut Steps<L>,
-) -> Result<(), Unwritten>
+) -> Result<bool, Unwritten>
     requires lines { (P.device dev.old).lines ≡ pool_lines program.now.image.parts.sizes }
-    ensures whole { OnOk result (TallyAll program.now tally.now session.old (P.device dev.old)
-        (K.written out.old) steps.old (P.device dev.new) (K.written out.new) steps.new) }
-    ensures part { OnErr result (TallyPart program.now tally.now session.old (P.device dev.old)
-        (K.written out.old) steps.old (P.device dev.new) (K.written out.new) steps.new) }
+    ensures whole { IfOk result (λ unmet. TallyAll program.now plain tally.now session.old
+        (P.device dev.old) (K.written out.old) steps.old (P.device dev.new) (K.written out.new)
+        steps.new × (unmet ≡ any_broken tally.now)) }
+    ensures part { OnErr result (TallyPart program.now plain tally.now session.old
+        (P.device dev.old) (K.written out.old) steps.old (P.device dev.new) (K.written out.new)
+        steps.new) }
     ensures write { IsErrOf result Unwritten.WriteFault
         → Rose (K.faults out.old) (K.faults out.new) }
 {
-    if let Err(why) = put_tally(alloc, tally, out) {
+    if let Err(why) = put_tally(alloc, tally, plain, out) {
         return Err(why);
     }
     let last = session.command(alloc, program, &Command::Last, dev, steps);
-    put_answer(alloc, &last, out)
+    match put_answer(alloc, &last, out) {
+        Ok(()) => Ok(tally.broken != 0),
+        Err(why) => Err(why),
+    }
 }
 
 /// Runs the rounds if the program has a transaction; else nothing is run.
@@ -286,27 +343,70 @@ fn run_round<P: Pmem, L: Ledger>(
     for (at, command) in commands.iter().enumerate() {
         let answer = session.command(alloc, program, command, dev, steps);
         tally.count(command, &answer);
-        traps.saw_in_round(alloc, &answer, session, round, &commands[..at + 1]);
+        see(alloc, traps, &answer, session, round, &commands[..at + 1]);
     }
 }
 
-/// Writes the summary's line.
-fn put_tally<K: Sink>(alloc: Global, tally: &Tally, out: &mut K) -> Result<(), Unwritten>
+/// Takes the answer of the last of these commands of a round, for a message.
+fn see(
+    alloc: Global,
+    traps: &mut Traps,
+    answer: &Answer,
+    session: &Session,
+    round: u64,
+    commands: &[Command],
+) {
+    traps.saw_in_round(alloc, answer, session, round, commands);
+    if let Some(command) = commands.last() {
+        if is_broken(command, answer) {
+            traps.saw_broken(alloc, round, commands);
+        }
+    }
+}
+
+/// Writes the summary.
+fn put_tally<K: Sink>(
+    alloc: Global,
+    tally: &Tally,
+    plain: bool,
+    out: &mut K,
+) -> Result<(), Unwritten>
     ensures whole { OnOk result (Appends (K.written out.old) (K.written out.new)
-        (tally_text tally.now)) }
+        (summary_text plain tally.now)) }
     ensures part { OnErr result (AppendsPart (K.written out.old) (K.written out.new)
-        (tally_text tally.now)) }
+        (summary_text plain tally.now)) }
     ensures write { IsErrOf result Unwritten.WriteFault
         → Rose (K.faults out.old) (K.faults out.new) }
     ensures count { K.faults out.old ≤ K.faults out.new }
 {
-    let Ok(line) = tally_line(alloc, tally) else {
+    let Ok(text) = summary(alloc, tally, plain) else {
         return Err(Unwritten::NoMemory);
     };
-    match write_all(out, line.as_str().as_bytes()) {
+    match write_all(out, text.as_str().as_bytes()) {
         Ok(()) => Ok(()),
         Err(_) => Err(Unwritten::WriteFault),
     }
+}
+
+/// The summary's lines.
+fn summary(alloc: Global, tally: &Tally, plain: bool) -> Result<String, AllocError>
+    ensures { IfOk result (λ s. string_bytes s ≡ summary_text plain tally.now) }
+{
+    let mut text = tally_line(alloc, tally)?;
+    if !plain {
+        return Ok(text);
+    }
+    push_plain(alloc, &mut text, tally)?;
+    Ok(text)
+}
+
+/// Appends the line of what is counted besides.
+fn push_plain(alloc: Global, text: &mut String, tally: &Tally) -> Result<(), AllocError>
+    ensures { OnOk result (string_bytes text.new ≡ with_plain (string_bytes text.old) tally.now) }
+{
+    push_count(alloc, text, "aborted ", tally.aborted)?;
+    push_count(alloc, text, " broken ", tally.broken)?;
+    text.push_str("\n")
 }
 
 fn tally_line(alloc: Global, tally: &Tally) -> Result<String, AllocError>
@@ -320,6 +420,7 @@ fn tally_line(alloc: Global, tally: &Tally) -> Result<String, AllocError>
         none,
         trapped,
         other,
+        ..
     } = *tally;
     let mut line = String::new(alloc);
     push_count(alloc, &mut line, "storm calls ", calls)?;

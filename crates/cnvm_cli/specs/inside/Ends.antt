@@ -27,6 +27,7 @@ use Rattle.cnvm_cli.specs.World.{Sources, Outside, IsUntouched}
 use Rattle.cnvm_cli.specs.inside.Opened.{ImageEnds}
 use Rattle.session_run.specs.Commands.{RanAs}
 use Rattle.session_run.specs.Storms.{StormedAs}
+use Rattle.session_run.specs.Strict.{strict_status}
 
 -- How the commands end on the pool that they start from.
 abbrev pub PoolEnds : Start → Program → List Command → Status → Option (List ℕ) → Option (List ℕ)
@@ -82,10 +83,10 @@ StormEnds asked order program result w w' d d' k k' =
 
 -- How the call ends, by its plan.
 abbrev pub PlanEnds : Plan → Sources → Status → (before after : Outside) → Type 0
-PlanEnds (plan.Run p s slots records ticks from save) told result before after =
-    RunEnds (asked_by slots records ticks) told (is_some from)
-    (is_some save) result before after
-PlanEnds (plan.RunPool p s slots records ticks pool former) told result before after =
+PlanEnds (plan.Run p s slots records ticks from save strict) told result before after =
+    (ran : Status) × (result ≡ strict_status strict ran)
+    × RunEnds (asked_by slots records ticks) told (is_some from) (is_some save) ran before after
+PlanEnds (plan.RunPool p s slots records ticks pool former strict) told result before after =
     Keeps before.image after.image × (after.dev ≡ before.dev)
 PlanEnds (plan.Serve p slots records ticks) told result before after =
     MemoryEnds (asked_by slots records ticks) told result before.out after.out before.dev after.dev
@@ -95,8 +96,8 @@ PlanEnds (plan.ServePool p slots records ticks pool former) told result before a
     Keeps before.image after.image × (after.dev ≡ before.dev)
 PlanEnds (plan.List p) told result before after =
     ListEnds told.program result before.out after.out × IsUntouched before after
-PlanEnds (plan.Storm p start count reach slots records ticks) told result before after =
-    StormEnds (asked_by slots records ticks) (ordered start count reach) told.program
+PlanEnds (plan.Storm p start count reach plain slots records ticks) told result before after =
+    StormEnds (asked_by slots records ticks) (ordered start count reach plain) told.program
     result before.out after.out before.dev
     after.dev before.steps after.steps
     × Keeps before.image after.image

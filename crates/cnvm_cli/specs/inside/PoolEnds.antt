@@ -8,6 +8,7 @@ use Rattle.file_pmem.specs.declared.link.MirrorState.TheVariants.{Awake}
 use Rattle.cnvm_session.specs.declared.mode.Mode.{Mode}
 use Rattle.session_run.specs.Held.{OpensTold, AnswersAs, HeldAs, NewAs}
 use Rattle.session_run.specs.declared.status.Status.TheVariants as status
+use Rattle.session_run.specs.Strict.{strict_status}
 use Rattle.cnvm_cli.specs.declared.former.FormerPool.{FormerPool}
 use Rattle.cnvm_cli.specs.Former.{TakesEither, TakesIf}
 use Rattle.cnvm_cli.specs.inside.FormerEnds.{MovesAs, TakesWords, TakesPool}
@@ -89,8 +90,9 @@ FileEnds asked moves told result before after =
     × FoundEnds asked moves compiled.program commands told.former told.image result before after)
 
 abbrev pub PlanOnFileEnds : Plan → Sources → Status → (before after : PoolSide) → Type 0
-PlanOnFileEnds (plan.RunPool p s slots records ticks pool former) told result before after =
-    FileEnds (asked_by slots records ticks) (is_some former) told result before after
+PlanOnFileEnds (plan.RunPool p s slots records ticks pool former strict) told result before after =
+    (ran : Status) × (result ≡ strict_status strict ran)
+    × FileEnds (asked_by slots records ticks) (is_some former) told ran before after
 PlanOnFileEnds (plan.ServePool p slots records ticks pool former) told result before after =
     ServeEnds (asked_by slots records ticks) (is_some former) told result before after
 PlanOnFileEnds (plan.WorkersPool p s workers slots records ticks pool) told result before after =

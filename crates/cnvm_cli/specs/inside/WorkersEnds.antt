@@ -10,7 +10,7 @@ use Rattle.cnvm_compile.specs.declared.compiling.Compiled.{Compiled}
 use Rattle.cnvm_compile.specs.Compilation.{IsCompiled}
 use Rattle.cnvm_cli.specs.declared.refused.Refused.{Refused}
 use Rattle.session_run.specs.declared.status.Status.{Status}
-use Rattle.session_run.specs.AsStatus.{AsStatus}
+use Rattle.session_run.specs.AsStatus.{AsStatus, met}
 use Rattle.cnvm_cli.specs.Run.{RefusedAs}
 use Rattle.cnvm_cli.specs.Verdict.{OfBytes, SpellsIn, RefuseIn}
 use Rattle.cnvm_cli.specs.WorkersMeant.{make_fault}
@@ -21,7 +21,7 @@ abbrev pub WorkersRanAs : Program → (count : ℕ) → List WorkersCommand → 
 WorkersRanAs program count commands result w w' d d' k k' =
     AsStatus (λ why. Unbegun (make_fault why) program count w w' d d' k k')
     (BreaksOffNew program count commands w w' d d' k k')
-    (RunsNew program count commands w w' d d' k k')
+    (met (RunsNew program count commands w w' d d' k k'))
     (BreaksOffNew program count commands w w' d d' k k') result
 
 -- The program or the script is refused, this is reported, and nothing is run; or the script's

@@ -43,7 +43,7 @@ origin_of path = if bytes_eq path (codes "-") then Input else File
 
 abbrev pub paths_in : Option Plan → Paths
 paths_in None = program_alone []
-paths_in (Some (plan.Run program script slots records ticks opened saved)) = record {
+paths_in (Some (plan.Run program script slots records ticks opened saved strict)) = record {
   program = program;
   origin = origin_of script;
   script = script;
@@ -51,7 +51,7 @@ paths_in (Some (plan.Run program script slots records ticks opened saved)) = rec
   image_out = path_or_none saved;
   former = [];
 }
-paths_in (Some (plan.RunPool program script slots records ticks pool former)) = record {
+paths_in (Some (plan.RunPool program script slots records ticks pool former strict)) = record {
   program = program;
   origin = origin_of script;
   script = script;
@@ -63,7 +63,8 @@ paths_in (Some (plan.Serve program slots records ticks)) = served_paths program 
 paths_in (Some (plan.ServePool program slots records ticks pool former)) =
     served_paths program pool former
 paths_in (Some (plan.List program)) = program_alone program
-paths_in (Some (plan.Storm program start count reach slots records ticks)) = program_alone program
+paths_in (Some (plan.Storm program start count reach plain slots records ticks)) =
+    program_alone program
 paths_in (Some (plan.Why program)) = program_alone program
 paths_in (Some (plan.Workers program script workers slots records ticks)) = record {
   program = program;

@@ -5,6 +5,9 @@ use Rattle.cnvm_cli.proofs.PoolMeaning.{plan_on_file_as, memory_on_file}
 use Rattle.session_run.proofs.Running.{keeps_same}
 use Rattle.cnvm_cli.proofs.run.cnvm.Goals as goal
 
+pub returns-in-Ok-clause-read : goal.returns-in-Ok-clause-read
+returns-in-Ok-clause-read g c is = rw c.in-Ok.ensures.ok (c.run_plan.ensures.read is)
+
 pub returns-in-Ok-clause-device : goal.returns-in-Ok-clause-device
 returns-in-Ok-clause-device g c is = rw c.in-Ok.ensures.ok (c.run_plan.ensures.device is)
 

@@ -9,7 +9,7 @@ returns-in-Run-clause-ends g c =
       ← c.asked_by-asked.ensures,
       ← c.is_some-opens.ensures,
       ← c.is_some-saves.ensures,
-    ) c.run.ensures.ends
+    ) (c.run.result, c.strict_status.ensures.value, c.run.ensures.ends)
 
 pub returns-in-Serve-clause-ends : goal.returns-in-Serve-clause-ends
 returns-in-Serve-clause-ends g c =
@@ -50,4 +50,4 @@ returns-in-RunPool-clause-pool g c =
       c.in-RunPool.is,
       ← c.asked_by-asked-in-RunPool.ensures,
       ← c.is_some-moves.ensures,
-    ) c.run_file.ensures.ends
+    ) (c.run_file-ran.result, c.strict_status-in-RunPool.ensures.value, c.run_file-ran.ensures.ends)

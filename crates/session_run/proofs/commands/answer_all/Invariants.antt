@@ -1,4 +1,4 @@
-use Rattle.std.proofs.Common.{◌≡◌, ◌≤◌, ℕ, List, Option, drop}
+use Rattle.std.proofs.Common.{◌≡◌, ◌≤◌, ℕ, List, Option, Bool, false, drop}
 use Rattle.pmem.specs.Device.{Device}
 use Rattle.pool_layout.specs.Sizes.{pool_lines}
 use Rattle.session_run.specs.Commands.{RunsAndWrites, RunsPart}
@@ -11,11 +11,11 @@ invariant-loop-given g l =
     let written = g.K.Sink.written in record {
       lines : (dev l.dev).lines ≡ pool_lines l.program.image.parts.sizes;
       count : g.K.Sink.faults l.initial.out ≤ g.K.Sink.faults l.out;
-      all : (d : Device) (w : Option (List ℕ)) (k : ℕ)
+      all : (d : Device) (w : Option (List ℕ)) (k : ℕ) (u : Bool)
           → RunsAndWrites l.program (drop l.given-index l.commands) l.session (dev l.dev)
-          (written l.out) l.steps d w k
+          (written l.out) l.steps l.unmet d w k u
           → RunsAndWrites l.program l.commands l.initial.session (dev l.initial.dev)
-          (written l.initial.out) l.initial.steps d w k;
+          (written l.initial.out) l.initial.steps false d w k u;
       part : (d : Device) (w : Option (List ℕ)) (k : ℕ)
           → RunsPart l.program (drop l.given-index l.commands) l.session (dev l.dev) (written l.out)
           l.steps d w k

@@ -1,4 +1,4 @@
-use Rattle.std.proofs.Common.{◌≡◌, ◌≤◌, ℕ, List, Option, drop}
+use Rattle.std.proofs.Common.{◌≡◌, ◌≤◌, ℕ, List, Option, Bool, false, drop}
 use Rattle.pmem.specs.Device.{Device}
 use Rattle.file_pmem.specs.Mirror.{file_device}
 use Rattle.file_pmem.specs.declared.link.MirrorState.TheVariants.{Awake}
@@ -17,11 +17,11 @@ invariant-loop-given g l =
       lines : now.lines ≡ pool_lines l.program.image.parts.sizes;
       awake : l.dev.link.state ≡ Awake;
       count : g.K.Sink.faults l.initial.out ≤ g.K.Sink.faults l.out;
-      all : (d : Device) (w : Option (List ℕ)) (k : ℕ)
+      all : (d : Device) (w : Option (List ℕ)) (k : ℕ) (u : Bool)
           → RunsAndWrites l.program left l.session now
-          (written l.out) l.steps d w k
+          (written l.out) l.steps l.unmet d w k u
           → RunsAndWrites l.program l.commands l.initial.session before
-          (written l.initial.out) l.initial.steps d w k;
+          (written l.initial.out) l.initial.steps false d w k u;
       part : (d : Device) (w : Option (List ℕ)) (k : ℕ)
           → RunsPart l.program left l.session now
           (written l.out) l.steps d w k
@@ -29,7 +29,7 @@ invariant-loop-given g l =
           (written l.initial.out) l.initial.steps d w k;
       some : (d : Device) (w : Option (List ℕ)) (k : ℕ)
           → RunsSome l.program left l.session now
-          (written l.out) l.steps d w k
+          (written l.out) l.steps l.unmet d w k
           → RunsSome l.program l.commands l.initial.session before
-          (written l.initial.out) l.initial.steps d w k;
+          (written l.initial.out) l.initial.steps false d w k;
     }
