@@ -21,9 +21,9 @@ use Rattle.session_law.specs.Source.{source_parameters, means, ComesBy, pool_of_
 use Rattle.session_law.specs.State.{Pending, Standing, Ready, Down, Unusable, SourceState}
 use Rattle.session_law.specs.State.{standing_as, done_with, undone_as}
 use Rattle.session_law.specs.Answers.{Refused, RunsBy, Looks, RunsAs, CallsWith, CallsTo}
-use Rattle.session_law.specs.Answers.{CallsNamed, Calls, Tells}
-use Rattle.session_law.specs.Answers.{Shows, ShowsDead, Lasts, ConcludesAs, IsConcluded, FindsOf, FindsOwed}
-use Rattle.session_law.specs.Answers.{Rests, RedoesBy, Recovers, IsMarked, Powers}
+use Rattle.session_law.specs.Answers.{CallsNamed, Calls, Tells, Shows, ShowsDead, Lasts}
+use Rattle.session_law.specs.Answers.{ConcludesAs, IsConcluded, FindsOf, FindsOwed, Rests}
+use Rattle.session_law.specs.Answers.{RedoesBy, Recovers, IsMarked, Powers}
 use Rattle.session_law.proofs.Logging.{one_outcome}
 use Rattle.needed_law.specs.AnswerKind.{AnswerKind, Meant, CutOff, FaultCame, NoRoom, AtLimit}
 use Rattle.needed_law.specs.AnswerKind.{UnfitPick, answer_kind}

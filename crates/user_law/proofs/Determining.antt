@@ -62,7 +62,8 @@ by_end P ends off fault none out pick (answer.RecoveredTrap kind) =
 by_end P ends off fault none out pick (answer.RecoveredAborted kind) =
     ends (answer.RecoveredAborted kind) tt
 by_end P ends off fault none out pick (answer.Shown text) = ends (answer.Shown text) tt
-by_end P ends off fault none out pick (answer.ShownDead trap text) = ends (answer.ShownDead trap text) tt
+by_end P ends off fault none out pick (answer.ShownDead trap text) =
+    ends (answer.ShownDead trap text) tt
 by_end P ends off fault none out pick (answer.Last n value) = ends (answer.Last n value) tt
 by_end P ends off fault none out pick answer.NoMemory = none
 by_end P ends off fault none out pick answer.RefusedDown = ends answer.RefusedDown tt

@@ -245,7 +245,8 @@ module _ (p : Source) (s t : UserState) (image : Words) (d b : Device) (es : Lis
   run_ends call (answer.RecoveredAborted kind) played is =
       run_ended call (answer.RecoveredAborted kind) is
   run_ends call (answer.Shown text) played is = run_ended call (answer.Shown text) is
-  run_ends call (answer.ShownDead trap text) played is = run_ended call (answer.ShownDead trap text) is
+  run_ends call (answer.ShownDead trap text) played is =
+      run_ended call (answer.ShownDead trap text) is
   run_ends call (answer.Last n value) played is = run_ended call (answer.Last n value) is
   run_ends call answer.NoMemory played is = tt
   run_ends call answer.RefusedDown played is = run_ended call answer.RefusedDown is
