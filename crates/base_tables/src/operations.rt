@@ -1,6 +1,6 @@
 //! Operations on words at the ends of 64 bits, with values from outside.
 
-use nvm_base::{BinOp, add, div, less, mul, rem, shl, shr, sub, ult};
+use nvm_base::{BinOp, add, div, less, mul, rem, shl, shr, sub, udiv, ule, ult, urem, ushr};
 
 #[test]
 fn operations_wrap(rt: HostRuntime) {
@@ -47,6 +47,16 @@ fn operations_wrap(rt: HostRuntime) {
         (BinOp::Ne, min, max, 1),
         (BinOp::Ult, -1, 0, 0),
         (BinOp::Ult, max, min, 1),
+        (BinOp::Ule, -1, 0, 0),
+        (BinOp::Ule, min, min, 1),
+        (BinOp::Udiv, -1, 2, max),
+        (BinOp::Udiv, min, -1, 0),
+        (BinOp::Udiv, 7, 0, 0),
+        (BinOp::Urem, -1, 10, 5),
+        (BinOp::Urem, 7, -1, 7),
+        (BinOp::Urem, 7, 0, 0),
+        (BinOp::Ushr, min, 63, 1),
+        (BinOp::Ushr, -16, 68, 1_152_921_504_606_846_975),
     ] {
         assert_eq!(rt; op.apply(a, b), want, "{op:?} at {a}, {b}");
     }
@@ -54,4 +64,6 @@ fn operations_wrap(rt: HostRuntime) {
     assert_eq!(rt; named, [min, -1, 12, -3, -1]);
     let named = [shl(1, 65), shr(-8, 2), less(-1, 0), ult(-1, 0)];
     assert_eq!(rt; named, [2, -2, 1, 0]);
+    let named = [ule(-1, 0), udiv(-1, 2), urem(-1, 10), ushr(-8, 62)];
+    assert_eq!(rt; named, [0, max, 5, 3]);
 }

@@ -36,7 +36,11 @@ fn traps(rt: HostRuntime) {
 fn field(alloc: Global, name: &str, length: Option<u64>) -> Result<FieldShape, AllocError> {
     let mut text = Text::new(alloc);
     text.push(name)?;
-    Ok(FieldShape { name: text, length })
+    Ok(FieldShape {
+        name: text,
+        unsigned: false,
+        length,
+    })
 }
 
 /// A root of a number, an array of two and a pointer, and a struct of a number and an array of

@@ -1,8 +1,9 @@
 -- Worked examples: the definition of the code's meaning computes.
-use Rattle.std.proofs.Common.{◌≡◌, pos, negsuc, List, [], ◌∷◌, None, Some, refl, true, false}
+use Rattle.std.proofs.Common.{◌≡◌, ℕ, pos, negsuc, List, [], ◌∷◌, Option, None, Some, refl, true, false}
 use Rattle.std.specs.Int.{int_wrap}
 use Rattle.nvm_base.specs.declared.op.BinOp.TheVariants as op
 use Rattle.pool_map.specs.PoolMap.{PoolMap}
+use Rattle.pool_map.specs.declared.shapes.FieldShape.{FieldShape}
 use Rattle.pool_map.specs.declared.shapes.Shapes.{Shapes}
 use Rattle.pool_map.specs.declared.trap.TrapKind.TheVariants as trap
 use Rattle.ir.specs.declared.instruction.Target.TheVariants as aim
@@ -13,11 +14,14 @@ use Rattle.ir.specs.declared.instruction.Instruction.TheVariants.{Tick}
 use Rattle.ir.specs.declared.function.Ir.{Ir}
 use Rattle.code_meaning.specs.Code.{Ended, Trapped, exec, code_start}
 
+abbrev of_length : Option ℕ → FieldShape
+of_length length = record { name = []; unsigned = false; length = length }
+
 -- a root with a word n and an array t of four, and a struct with a word
 shapes : Shapes
 shapes = record {
-  root = record { name = []; length = None } ∷ record { name = []; length = Some 4 } ∷ [];
-  structs = record { name = []; fields = record { name = []; length = None } ∷ [] } ∷ [];
+  root = of_length None ∷ of_length (Some 4) ∷ [];
+  structs = record { name = []; fields = of_length None ∷ [] } ∷ [];
 }
 
 code_of : List Instruction → Ir

@@ -84,6 +84,10 @@ word_of op.Le a b = Some (word.le a b)
 word_of op.Eq a b = Some (word.eq a b)
 word_of op.Ne a b = Some (word.ne a b)
 word_of op.Ult a b = Some (word.ult a b)
+word_of op.Ule a b = Some (word.ule a b)
+word_of op.Udiv a b = unless_zero b (word.udiv a b)
+word_of op.Urem a b = unless_zero b (word.urem a b)
+word_of op.Ushr a b = Some (word.ushr a b)
 
 abbrev pub is_kind : Option Object → ℕ → Bool
 is_kind None kind = false

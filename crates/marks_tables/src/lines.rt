@@ -200,6 +200,7 @@ pub fn function(
 fn field(alloc: Global, length: Option<u64>) -> FieldShape {
     FieldShape {
         name: Text::new(alloc),
+        unsigned: false,
         length,
     }
 }

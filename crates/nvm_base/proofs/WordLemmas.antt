@@ -5,7 +5,7 @@ use Rattle.std.specs.Prelude.{FitsSigned, int_div, int_rem, unsigned_abs}
 use Rattle.std.specs.Int.{w64, cast_signed, cast_unsigned, int_wrap, int_div_euclid, int_shl}
 use Rattle.std.specs.Int.{int_shr}
 use Rattle.std.specs.Int.Signed.{mag_rem}
-use Rattle.std.proofs.Math.Nat.{div-le_self}
+use Rattle.std.proofs.Math.Nat.{div-le_self, mod-le}
 use Rattle.std.proofs.Math.Pow.{pow-lt}
 use Rattle.std.proofs.lemmas.Int.{ints, wraps, int_wrap_fits, quot-rem, to_z-of_z}
 use Rattle.std.proofs.lemmas.Int.{int_wrap-mul_right, wrapping_mul-bits}
@@ -70,4 +70,14 @@ shr_is (pos a) k f = sym (int_wrap_fits w64 (pos (a / 2 ^ k))
 shr_is (negsuc a) k f = sym (int_wrap_fits w64 (negsuc (a / 2 ^ k))
     (record { sfits = omega (arith, div-le_self a (2 ^ k), f.sfits) }))
 
-pub ruleset words = (to_z-of_z, div_is, rem_is, shl_is, shr_is)
+pub udiv_is : (a : ℤ) (n : ℕ) → FitsSigned w64 a
+    → cast_signed w64 (cast_unsigned w64 a / n) ≡ int_wrap w64 (pos (cast_unsigned w64 a / n))
+udiv_is a n f = cast_small (cast_unsigned w64 a / n)
+    (omega (arith, bits_fit a f, div-le_self (cast_unsigned w64 a) n))
+
+pub urem_is : (a : ℤ) (n : ℕ) → FitsSigned w64 a
+    → cast_signed w64 (cast_unsigned w64 a % n) ≡ int_wrap w64 (pos (cast_unsigned w64 a % n))
+urem_is a n f = cast_small (cast_unsigned w64 a % n)
+    (omega (arith, bits_fit a f, mod-le (cast_unsigned w64 a) n))
+
+pub ruleset words = (to_z-of_z, div_is, rem_is, shl_is, shr_is, udiv_is, urem_is)

@@ -4,7 +4,8 @@ use Rattle.std.specs.Prelude.{ℤ, pos, ◌==◌, if◌then◌else◌}
 use Rattle.nvm_base.specs.Operations as word
 use Rattle.nvm_base.specs.declared.op.BinOp.{BinOp}
 use Rattle.nvm_base.specs.declared.op.BinOp.TheVariants.{Add, Sub, Mul, Div, Rem, Shl, Shr, And, Or}
-use Rattle.nvm_base.specs.declared.op.BinOp.TheVariants.{Xor, Lt, Le, Eq, Ne, Ult}
+use Rattle.nvm_base.specs.declared.op.BinOp.TheVariants.{Xor, Lt, Le, Eq, Ne, Ult, Ule, Udiv}
+use Rattle.nvm_base.specs.declared.op.BinOp.TheVariants.{Urem, Ushr}
 
 -- the value, or 0 if the divisor is 0
 abbrev pub zero_by_zero : (divisor : ℤ) → ℤ → ℤ
@@ -26,3 +27,7 @@ applied Le a b = word.le a b
 applied Eq a b = word.eq a b
 applied Ne a b = word.ne a b
 applied Ult a b = word.ult a b
+applied Ule a b = word.ule a b
+applied Udiv a b = zero_by_zero b (word.udiv a b)
+applied Urem a b = zero_by_zero b (word.urem a b)
+applied Ushr a b = word.ushr a b

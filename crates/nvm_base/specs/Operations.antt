@@ -4,9 +4,9 @@
 --
 -- Division truncates toward zero, so -2^63 / -1 wraps to -2^63 and its remainder is 0. The count of
 -- a shift is taken modulo 64. A shift to the right divides and rounds down, so it copies the sign
--- bit.
-use Rattle.std.specs.Prelude.{◌+ℤ◌, ◌-ℤ◌, ◌*ℤ◌, ◌^◌, ◌%◌, ◌==◌, ℕ, ℤ, pos, Bool, not, nat_lt}
-use Rattle.std.specs.Prelude.{int_div, int_lt, int_le, if◌then◌else◌}
+-- bit; one of unsigned numbers puts in zeros.
+use Rattle.std.specs.Prelude.{◌+ℤ◌, ◌-ℤ◌, ◌*ℤ◌, ◌^◌, ◌/◌, ◌%◌, ◌==◌, ℕ, ℤ, pos, Bool, not}
+use Rattle.std.specs.Prelude.{nat_le, nat_lt, int_div, int_lt, int_le, if◌then◌else◌}
 use Rattle.std.specs.Int.{w64, cast_unsigned, int_div_euclid, int_bit_and, int_bit_or, int_bit_xor}
 use Rattle.nvm_base.specs.Wrap.{wrap}
 
@@ -70,3 +70,16 @@ ne a b = truth (not (unsigned a == unsigned b))
 -- `less` of the two words as unsigned numbers
 abbrev pub ult : ℤ → ℤ → ℤ
 ult a b = truth (nat_lt (unsigned a) (unsigned b))
+
+-- `le`, quotient, remainder and shift to the right of the two words as unsigned numbers
+abbrev pub ule : ℤ → ℤ → ℤ
+ule a b = truth (nat_le (unsigned a) (unsigned b))
+
+abbrev pub udiv : ℤ → ℤ → ℤ
+udiv a b = wrap (pos (unsigned a / unsigned b))
+
+abbrev pub urem : ℤ → ℤ → ℤ
+urem a b = wrap (pos (unsigned a % unsigned b))
+
+abbrev pub ushr : ℤ → ℤ → ℤ
+ushr a b = wrap (pos (unsigned a / 2 ^ shift_places b))

@@ -42,4 +42,4 @@ pub use std_sink::StdSink;
 pub use std_source::StdSource;
 pub use steps::Steps;
 pub use text::Text;
-pub use word::{add, div, less, mul, natural_of, rem, shl, shr, sub, ult};
+pub use word::{add, div, less, mul, natural_of, rem, shl, shr, sub, udiv, ule, ult, urem, ushr};

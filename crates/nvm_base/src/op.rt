@@ -3,10 +3,10 @@
 ghost use Rattle.std.specs.Prelude.{◌≡◌};
 ghost use Rattle.nvm_base.specs.Applied.{applied};
 
-use crate::word::{add, div, less, mul, rem, shl, shr, sub, ult};
+use crate::word::{add, div, less, mul, rem, shl, shr, sub, udiv, ule, ult, urem, ushr};
 
-/// A binary operation on 64-bit words. `Lt`, `Le`, `Eq`, `Ne` and `Ult` give 0 or 1; `Ult` compares
-/// its operands as unsigned numbers.
+/// A binary operation on 64-bit words. `Lt`, `Le`, `Eq`, `Ne`, `Ult` and `Ule` give 0 or 1. Those
+/// whose names begin with U take their operands as unsigned numbers.
 #[derive(Clone, Copy, Debug)]
 pub enum BinOp {
     Add,
@@ -24,6 +24,10 @@ pub enum BinOp {
     Eq,
     Ne,
     Ult,
+    Ule,
+    Udiv,
+    Urem,
+    Ushr,
 }
 
 impl BinOp {
@@ -48,6 +52,10 @@ impl BinOp {
             BinOp::Eq => i64::from(a == b),
             BinOp::Ne => i64::from(a != b),
             BinOp::Ult => ult(a, b),
+            BinOp::Ule => ule(a, b),
+            BinOp::Udiv => { if b == 0 { 0 } else { udiv(a, b) } }
+            BinOp::Urem => { if b == 0 { 0 } else { urem(a, b) } }
+            BinOp::Ushr => ushr(a, b),
         }
     }
 }

@@ -76,6 +76,41 @@ pub fn ult(a: i64, b: i64) -> i64
     i64::from(a.cast_unsigned() < b.cast_unsigned())
 }
 
+/// 1 if `a <= b` as unsigned numbers, else 0.
+pub fn ule(a: i64, b: i64) -> i64
+    ensures { result ≡ word.ule a b }
+{
+    i64::from(a.cast_unsigned() <= b.cast_unsigned())
+}
+
+/// `a / b` of unsigned numbers.
+#[tactic(auto, using(crate::proofs::WordLemmas::words))]
+pub fn udiv(a: i64, b: i64) -> i64
+    requires { b ≢ pos 0 }
+    ensures { result ≡ word.udiv a b }
+{
+    (a.cast_unsigned() / b.cast_unsigned()).cast_signed()
+}
+
+/// The remainder of `a / b` of unsigned numbers.
+#[tactic(auto, using(crate::proofs::WordLemmas::words))]
+pub fn urem(a: i64, b: i64) -> i64
+    requires { b ≢ pos 0 }
+    ensures { result ≡ word.urem a b }
+{
+    (a.cast_unsigned() % b.cast_unsigned()).cast_signed()
+}
+
+/// `a` shifted to the right by `b` modulo 64, with zeros put in.
+#[tactic(auto, using(crate::proofs::WordLemmas::words))]
+pub fn ushr(a: i64, b: i64) -> i64
+    ensures { result ≡ word.ushr a b }
+{
+    a.cast_unsigned()
+        .wrapping_shr((b.cast_unsigned() % 64) as u32)
+        .cast_signed()
+}
+
 /// The word's number; 0 for a word below 0.
 #[tactic(auto, using(std::proofs::lemmas::Int::wraps))]
 pub fn natural_of(word: i64) -> u64

@@ -3,3 +3,4 @@ pub mod Least
 pub mod Points
 pub mod Slots
 pub mod Fitting
+pub mod Joined

@@ -1,10 +1,12 @@
 -- The text of a pool has a line `root` and, from the least slot on, a line `slot S T` for each slot
 -- S with an object, where T is the name of the object's struct. Each line continues with ` F=V` for
--- each field F, in the fields' order. A value V is a number in decimal, with `-` if it is negative;
+-- each field F, in the fields' order. A value V is a number in decimal, with `-` if it is negative,
+-- and that of a field of `uint64_t` one from 0 on;
 -- the value of an array is its elements between `[` and `]`, separated by `,`. Each line ends with
 -- LF.
 use Rattle.std.specs.Prelude.{ℕ, suc, ◌++◌, List, [], ◌∷◌, Option, None, Some, ℤ, pos, take, drop}
-use Rattle.std.specs.Prelude.{slice_index_or, codes}
+use Rattle.std.specs.Prelude.{slice_index_or, codes, Bool, true, false}
+use Rattle.std.specs.Int.{w64, cast_unsigned}
 use Rattle.std.specs.List.{join_by}
 use Rattle.std.specs.Fmt.{decimal, signed_decimal}
 use Rattle.pool_map.specs.declared.object.Object.{Object}
@@ -14,13 +16,19 @@ use Rattle.pool_map.specs.declared.shapes.Shapes.{Shapes}
 use Rattle.pool_map.specs.PoolMap.{PoolMap}
 use Rattle.pool_map.specs.PoolFits.{words_of_field, struct_at}
 
+-- a word in decimal, as a number with its sign, or as the number from 0 to 2^64 - 1 with its bits
+abbrev pub word_text : (unsigned : Bool) → ℤ → List ℕ
+word_text true word = decimal (cast_unsigned w64 word)
+word_text false word = signed_decimal word
+
 -- the text of a field's value with these words; the option is the length of an array
-abbrev pub value_text : Option ℕ → List ℤ → List ℕ
-value_text None words = signed_decimal (slice_index_or words 0 (pos 0))
-value_text (Some _) words = codes "[" ++ (join_by signed_decimal (codes ",") words ++ codes "]")
+abbrev pub value_text : (unsigned : Bool) → Option ℕ → List ℤ → List ℕ
+value_text u None words = word_text u (slice_index_or words 0 (pos 0))
+value_text u (Some _) words = codes "[" ++ (join_by (word_text u) (codes ",") words ++ codes "]")
 
 abbrev pub field_text : FieldShape → List ℤ → List ℕ
-field_text field words = codes " " ++ (field.name ++ (codes "=" ++ value_text field.length words))
+field_text field words =
+    codes " " ++ (field.name ++ (codes "=" ++ value_text field.unsigned field.length words))
 
 -- the texts of the fields, whose words come in the fields' order
 abbrev pub fields_text : List FieldShape → List ℤ → List ℕ

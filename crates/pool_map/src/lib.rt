@@ -19,6 +19,6 @@ pub use law::laws;
 pub use object::Object;
 pub use pool::Pool;
 pub use shapes::{FieldShape, FieldShapes, Shapes, StructShape, StructShapes};
-pub use show::show_text;
+pub use show::{show_text, word_digits};
 pub use trap::TrapKind;
 pub use word::PoolWord;

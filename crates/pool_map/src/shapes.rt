@@ -9,6 +9,8 @@ use std::alloc::{AllocError, Global};
 #[derive(Drop)]
 pub struct FieldShape {
     pub name: Text,
+    /// Whether its words are shown as numbers from 0 to 2^64 - 1.
+    pub unsigned: bool,
     /// The number of elements of an array, or `None` for a field that isn't an array.
     pub length: Option<u64>,
 }
@@ -59,6 +61,7 @@ impl FieldShape {
     {
         Ok(FieldShape {
             name: text_copy(alloc, &self.name)?,
+            unsigned: self.unsigned,
             length: self.length,
         })
     }

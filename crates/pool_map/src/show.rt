@@ -1,12 +1,12 @@
 //! The text of a pool.
 
-ghost use Rattle.std.specs.Prelude.{◌≡◌, ◌++◌, OnOk, IfOk, length, IfSome, Some, ◌∷◌, [], codes};
-ghost use Rattle.std.specs.Fmt.{decimal, signed_decimal};
+ghost use Rattle.std.specs.Prelude.{string_bytes, ◌≡◌, ◌++◌, OnOk, IfOk, length, IfSome, Some, ◌∷◌, [], codes};
+ghost use Rattle.std.specs.Fmt.{decimal};
 ghost use Rattle.std.specs.List.{AllByRecursion, join_by};
 ghost use Rattle.pool_map.specs.PoolFits.{struct_at, words_of_field, words_of, ObjectFits};
 ghost use Rattle.pool_map.specs.PoolFits.{PoolFits};
-ghost use Rattle.pool_map.specs.PoolText.{value_text, field_text, fields_text, slot_line};
-ghost use Rattle.pool_map.specs.PoolText.{slot_lines, pool_text};
+ghost use Rattle.pool_map.specs.PoolText.{value_text, word_text, field_text, fields_text};
+ghost use Rattle.pool_map.specs.PoolText.{slot_line, slot_lines, pool_text};
 
 use crate::object::Object;
 use crate::pool::Pool;
@@ -113,41 +113,63 @@ fn push_field(
     text.push(field.name.as_str())?;
     text.push("=")?;
     match field.length {
-        None => push_number(alloc, text, words[0]),
-        Some(_) => push_array(alloc, text, words),
+        None => push_word(alloc, text, field.unsigned, words[0]),
+        Some(_) => push_array(alloc, text, field.unsigned, words),
     }
 }
 
 /// Writes an array's elements in brackets.
-fn push_array(alloc: Global, text: &mut Text, words: &[i64]) -> Result<(), AllocError>
+fn push_array(
+    alloc: Global,
+    text: &mut Text,
+    unsigned: bool,
+    words: &[i64],
+) -> Result<(), AllocError>
     ensures { OnOk result (text.new ≡ text.old
-        ++ (codes "[" ++ (join_by signed_decimal (codes ",") words.now ++ codes "]"))) }
+        ++ (codes "[" ++ (join_by (word_text unsigned) (codes ",") words.now ++ codes "]"))) }
 {
     text.push("[")?;
-    push_elements(alloc, text, words)?;
+    push_elements(alloc, text, unsigned, words)?;
     text.push("]")?;
     Ok(())
 }
 
 /// Writes an array's elements, separated by commas.
-fn push_elements(alloc: Global, text: &mut Text, words: &[i64]) -> Result<(), AllocError>
-    ensures { OnOk result (text.new ≡ text.old ++ join_by signed_decimal (codes ",") words.now) }
+fn push_elements(
+    alloc: Global,
+    text: &mut Text,
+    unsigned: bool,
+    words: &[i64],
+) -> Result<(), AllocError>
+    ensures { OnOk result (text.new
+        ≡ text.old ++ join_by (word_text unsigned) (codes ",") words.now) }
 {
     let [first, others @ ..] = words else {
         return Ok(());
     };
-    push_number(alloc, text, *first)?;
+    push_word(alloc, text, unsigned, *first)?;
     for word in others {
         text.push(",")?;
-        push_number(alloc, text, *word)?;
+        push_word(alloc, text, unsigned, *word)?;
     }
     Ok(())
 }
 
-/// Writes a number in decimal.
-fn push_number(alloc: Global, text: &mut Text, number: i64) -> Result<(), AllocError>
-    ensures { OnOk result (text.new ≡ text.old ++ signed_decimal number) }
+/// Writes a word in decimal, as a number with its sign or as one from 0 on.
+fn push_word(alloc: Global, text: &mut Text, unsigned: bool, word: i64) -> Result<(), AllocError>
+    ensures { OnOk result (text.new ≡ text.old ++ word_text unsigned word) }
 {
-    let digits = format!(in alloc; "{number}")?;
+    let digits = word_digits(alloc, unsigned, word)?;
     text.push(digits.as_str())
+}
+
+/// The digits of a word, as a number with its sign or as one from 0 on.
+pub fn word_digits(alloc: Global, unsigned: bool, word: i64) -> Result<String, AllocError>
+    ensures { IfOk result (λ s. string_bytes s ≡ word_text unsigned word) }
+{
+    if unsigned {
+        let number = word.cast_unsigned();
+        return format!(in alloc; "{number}");
+    }
+    format!(in alloc; "{word}")
 }

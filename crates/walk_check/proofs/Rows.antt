@@ -17,7 +17,7 @@ use Rattle.walk_check.specs.declared.checker.CheckFault.TheVariants.{BadPiece, B
 use Rattle.walk_check.specs.Keeps.{certificate_fault}
 
 shapes : Shapes
-shapes = record { root = record { name = []; length = None } ∷ []; structs = [] }
+shapes = record { root = record { name = []; unsigned = false; length = None } ∷ []; structs = [] }
 
 inc : Ir
 inc = record {
