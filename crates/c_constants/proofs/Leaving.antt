@@ -199,7 +199,7 @@ module _ (list : Tokens) (numbers : AreWordTokens list.tokens) where
       by_got (Some p) h = (h, tt)
 
   base_words : (b : Base) → AreWordTokens (base_tokens list b)
-  base_words (base.Int64 word) = these_words word
+  base_words (base.Ints word) = these_words word
   base_words (base.Struct word name) = all_append IsWordToken (these (slice_get list.tokens word))
       (these (slice_get list.tokens name)) (these_words word) (these_words name)
 

@@ -54,7 +54,7 @@ drop_at (q ∷ ts) (suc k) p e =
     drop_at ts k p e ∙ ap (λ (m : ℕ). p ∷ drop m (q ∷ ts)) (sym n)
 
 begun_depth : (place : ℕ) (s : Seen) → depth (declarations.begun place s) ≤ 0
-begun_depth place seen_as.Int64 = omega arith
+begun_depth place seen_as.Ints = omega arith
 begun_depth place seen_as.Struct = omega arith
 begun_depth place _ = omega arith
 

@@ -1,8 +1,8 @@
 -- The values of constants are words.
 use Rattle.std.proofs.Common.{◌≡◌, ℕ, zero, suc, ◌-◌, ◌^◌, ◌<◌, ◌≤◌, ℤ, pos, negsuc, Bool, true}
 use Rattle.std.proofs.Common.{false, List, [], ◌∷◌, refl, arith, ltb}
-use Rattle.std.specs.Prelude.{◌==◌, ◌&&◌, if◌then◌else◌, slice_get, bit_and, bit_or, bit_xor}
-use Rattle.std.specs.Prelude.{Option, None, Some, Result, Ok, Err}
+use Rattle.std.specs.Prelude.{◌==◌, ◌&&◌, int_lt, if◌then◌else◌, slice_get, bit_and, bit_or}
+use Rattle.std.specs.Prelude.{bit_xor, Option, None, Some, Result, Ok, Err}
 use Rattle.std.specs.Int.{w64, cast_signed}
 use Rattle.std.specs.List.{AllByRecursion}
 use Rattle.std.specs.Str.{bytes_eq}
@@ -83,6 +83,10 @@ applied_word op.Le a b wa wb = truth_word _
 applied_word op.Eq a b wa wb = truth_word _
 applied_word op.Ne a b wa wb = truth_word _
 applied_word op.Ult a b wa wb = truth_word _
+applied_word op.Ule a b wa wb = truth_word _
+applied_word op.Udiv a b wa wb = zero_or_word (unsigned b == 0) _
+applied_word op.Urem a b wa wb = zero_or_word (unsigned b == 0) _
+applied_word op.Ushr a b wa wb = wrap_word _
 
 signed_word : (s : Sign) (a : ℤ) → IsWord a → IsWord (terms.signed_word s a)
 signed_word sign.Negate a w = wrap_word _
@@ -183,7 +187,11 @@ module _ (list : Tokens) (numbers : AreWordTokens list.tokens) (names : List Con
 
   operand_word : (go : Task → Read) → Gives go → (room place : ℕ) (p : Part)
       → HoldsWord (terms.read_operand go list names room place p)
-  operand_word go gives room place part.Number = number_word list.tokens place numbers
+  operand_word go gives room place part.Number =
+      let word : ℤ = placed_number (slice_get list.tokens place) in
+      unless_word (int_lt word (pos 0)) (bad_number list place)
+      (Ok (record { word = word; room = room; place = next_place list place }))
+      (number_word list.tokens place numbers)
   operand_word go gives room place part.Name =
       known_word room place (constant_named names (name_at list place))
       (named_word names (name_at list place) known)

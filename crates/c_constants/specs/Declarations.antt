@@ -1,4 +1,4 @@
--- Declarations of several names. One begins with a type, `int64_t` or `struct NAME`, right after a
+-- Declarations of several names. One begins with a type, an int type or `struct NAME`, right after a
 -- `;`, `{` or `}`, and goes on up to the next of these. In it each `,` outside of round and square
 -- brackets becomes a `;` and the tokens of the type once more, which keep their places.
 use Rattle.std.specs.Prelude.{ℕ, ◌+◌, ◌-◌, ◌==◌, List, [], ◌∷◌, ◌++◌, Option, Some, None, Result}
@@ -33,13 +33,14 @@ mark_seen _ = seen_as.Other
 abbrev pub seen_of : Token → Seen
 seen_of (token.Name text) = seen_as.Name
 seen_of (token.Mark m) = mark_seen m
-seen_of (token.Word word.Int64) = seen_as.Int64
+seen_of (token.Word word.Int64) = seen_as.Ints
+seen_of (token.Word word.Uint64) = seen_as.Ints
 seen_of (token.Word word.Struct) = seen_as.Struct
 seen_of _ = seen_as.Other
 
 -- what comes after the token at a place, where a declaration may begin with it
 abbrev pub begun : (place : ℕ) → Seen → Stand
-begun place seen_as.Int64 = stand.Declaration (base.Int64 place) 0
+begun place seen_as.Ints = stand.Declaration (base.Ints place) 0
 begun place seen_as.Struct = stand.Struct place
 begun place _ = stand.Elsewhere
 
@@ -74,7 +75,7 @@ these None = []
 these (Some p) = p ∷ []
 
 abbrev pub base_tokens : Tokens → Base → List Placed
-base_tokens list (base.Int64 word) = these (slice_get list.tokens word)
+base_tokens list (base.Ints word) = these (slice_get list.tokens word)
 base_tokens list (base.Struct word name) =
     these (slice_get list.tokens word) ++ these (slice_get list.tokens name)
 

@@ -10,7 +10,7 @@
 -- closing bracket it is what it was before the opening one.
 use Rattle.std.specs.Prelude.{ℕ, ℤ, pos, negsuc, zero, suc, ◌-◌, ◌==◌, List, Option, Some}
 use Rattle.std.specs.Prelude.{None, Result, Ok, Err, Bool, true, false, nat_le}
-use Rattle.std.specs.Prelude.{if◌then◌else◌, ◌&&◌}
+use Rattle.std.specs.Prelude.{if◌then◌else◌, ◌&&◌, int_lt}
 use Rattle.c_lexer.specs.TokenList.{Tokens}
 use Rattle.nvm_base.specs.Applied.{applied}
 use Rattle.nvm_base.specs.Operations as word
@@ -81,9 +81,11 @@ joined list o left right =
       place = right.place;
     })
 
-abbrev pub number_term : Tokens → ℕ → ℕ → Term
-number_term list room place =
-    record { word = token_number_at list place; room = room; place = next_place list place }
+-- a number, which must be at most 2^63 - 1: a greater one is a word below 0
+abbrev pub number_term : Tokens → ℕ → ℕ → Read
+number_term list room place = let word = token_number_at list place in
+    if int_lt word (pos 0) then Err (bad_number list place)
+    else Ok (record { word = word; room = room; place = next_place list place })
 
 abbrev pub known_term : Tokens → ℕ → ℕ → Option ℤ → Read
 known_term list room place None = Err (unknown_name list place)
@@ -121,7 +123,7 @@ unary go list room place (Some s) =
     else then_read (go (Operand (room - 1) (next_place list place))) (λ t. Ok (signed s t))
 
 abbrev pub read_operand : (Task → Read) → Tokens → List Constant → (room place : ℕ) → Part → Read
-read_operand go list names room place part.Number = Ok (number_term list room place)
+read_operand go list names room place part.Number = number_term list room place
 read_operand go list names room place part.Name =
     known_term list room place (constant_named names (name_at list place))
 read_operand go list names room place part.OpenRound = read_bracket go list room place

@@ -14,7 +14,8 @@ use std::alloc::Global;
 /// The places of the tokens of a declaration's type, without a star.
 #[derive(Clone, Copy)]
 enum Base {
-    Int64(u64),
+    /// The word `int64_t` or `uint64_t`.
+    Ints(u64),
     /// The word `struct`, and the name.
     Struct(u64, u64),
 }
@@ -37,7 +38,7 @@ fn begun(place: u64, seen: Seen) -> Stand
     ensures { result ≡ declarations.begun place seen }
 {
     match seen {
-        Seen::Int64 => Stand::Declaration(Base::Int64(place), 0),
+        Seen::Ints => Stand::Declaration(Base::Ints(place), 0),
         Seen::Struct => Stand::Struct(place),
         _ => Stand::Elsewhere,
     }
@@ -124,7 +125,7 @@ fn put_base(
         ⊎ (result ≡ stand_ins.put_all out (declarations.base_tokens tokens.now base)) }
 {
     match base {
-        Base::Int64(word) => put_again(alloc, tokens, out, word),
+        Base::Ints(word) => put_again(alloc, tokens, out, word),
         Base::Struct(word, name) => {
             let out = put_again(alloc, tokens, out, word)?;
             put_again(alloc, tokens, out, name)

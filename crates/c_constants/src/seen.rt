@@ -8,8 +8,8 @@ use c_lexer::{Mark, Token, Word};
 /// A token without its text.
 #[derive(Clone, Copy, Debug)]
 pub(crate) enum Seen {
-    /// `int64_t`
-    Int64,
+    /// `int64_t` or `uint64_t`
+    Ints,
     /// `struct`
     Struct,
     Name,
@@ -41,7 +41,7 @@ pub(crate) fn seen_of(token: &Token) -> Seen
     match token {
         Token::Name(_) => Seen::Name,
         Token::Mark(mark) => mark_seen(*mark),
-        Token::Word(Word::Int64) => Seen::Int64,
+        Token::Word(Word::Int64 | Word::Uint64) => Seen::Ints,
         Token::Word(Word::Struct) => Seen::Struct,
         _ => Seen::Other,
     }

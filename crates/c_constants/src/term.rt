@@ -122,18 +122,23 @@ fn joined(tokens: &TokenList, op: BinOp, left: Term, right: Term) -> Result<Term
     })
 }
 
-/// A number.
-fn number_term(tokens: &TokenList, room: u64, place: u64) -> Term
+/// A number, which must be at most 2^63 - 1.
+fn number_term(tokens: &TokenList, room: u64, place: u64) -> Result<Term, ConstFault>
     requires inside { place ≤ length tokens.now.tokens }
     ensures term { result ≡ terms.number_term tokens.now room place }
-    ensures onward { place ≤ result.place }
-    ensures inside { result.place ≤ length tokens.now.tokens }
+    ensures room { IfOk result (λ t. t.room ≤ room) }
+    ensures onward { IfOk result (λ t. place ≤ t.place) }
+    ensures inside { IfOk result (λ t. t.place ≤ length tokens.now.tokens) }
 {
-    Term {
-        word: token_number_at(tokens, place),
+    let word = token_number_at(tokens, place);
+    if word < 0 {
+        return Err(bad_number(tokens, place));
+    }
+    Ok(Term {
+        word,
         room,
         place: next_place(tokens, place),
-    }
+    })
 }
 
 /// A constant of this name.
@@ -288,7 +293,7 @@ fn read_operand(
 {
     let part = part_at(tokens, place);
     match part {
-        Part::Number => Ok(number_term(tokens, room, place)),
+        Part::Number => number_term(tokens, room, place),
         Part::Name => known_term(tokens, constants, room, place),
         Part::OpenRound => read_bracket(tokens, constants, room, place),
         _ => unary(tokens, constants, room, place, part),

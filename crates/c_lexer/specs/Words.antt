@@ -12,6 +12,7 @@ use Rattle.c_lexer.specs.declared.token.Token.TheVariants as token
 abbrev pub word_table : List (List ℕ × Word)
 word_table =
     (codes "int64_t", word.Int64) ∷
+    (codes "uint64_t", word.Uint64) ∷
     (codes "void", word.Void) ∷
     (codes "struct", word.Struct) ∷
     (codes "enum", word.Enum) ∷

@@ -102,6 +102,8 @@ pub enum Mark {
 pub enum Word {
     /// `int64_t`
     Int64,
+    /// `uint64_t`
+    Uint64,
     /// `void`
     Void,
     /// `struct`
@@ -147,7 +149,7 @@ pub enum Word {
 pub enum Token {
     /// A name that isn't reserved.
     Name(Text),
-    /// A number, from 0 to 2^63 - 1.
+    /// A number from 0 to 2^64 - 1, as the word with its bits: from 2^63 on it is less by 2^64.
     Number(i64),
     Mark(Mark),
     Word(Word),

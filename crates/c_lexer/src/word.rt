@@ -12,8 +12,9 @@ use nvm_base::Text;
 use std::alloc::{AllocError, Global};
 use std::str;
 
-const WORDS: [(&str, Word); 20] = [
+const WORDS: [(&str, Word); 21] = [
     ("int64_t", Word::Int64),
+    ("uint64_t", Word::Uint64),
     ("void", Word::Void),
     ("struct", Word::Struct),
     ("enum", Word::Enum),
@@ -70,7 +71,7 @@ fn is_among(run: &[u8], table: &[&str]) -> bool
 fn profile_word(run: &[u8]) -> Option<Word>
     ensures { result ≡ word_spelled run.now }
 {
-    let table: [(&str, Word); 20] = WORDS;
+    let table: [(&str, Word); 21] = WORDS;
     first_spelled(run, table.as_slice())
 }
 

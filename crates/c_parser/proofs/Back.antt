@@ -11,12 +11,13 @@ use Rattle.c_lexer.specs.declared.token.Token.{Token}
 use Rattle.c_lexer.specs.declared.token.Token.TheVariants as token
 use Rattle.c_lexer.specs.declared.token.Placed.{Placed}
 use Rattle.c_tree.specs.declared.expr.BinaryOp.TheVariants as op
+use Rattle.c_tree.specs.declared.expr.IntType.{IntType}
 use Rattle.c_tree.specs.declared.expr.UnaryOp.TheVariants as unary
 use Rattle.c_tree.specs.declared.stmt.AssignOp.TheVariants as assign
 use Rattle.c_tree.specs.declared.kind.Kind.{Kind}
 use Rattle.c_tree.specs.declared.kind.Kind.TheVariants as kind
 use Rattle.c_parser.specs.declared.want.Want.{Want}
-use Rattle.c_parser.specs.declared.want.Want.TheVariants.{Operand, Rest, Named, Dot, Colon}
+use Rattle.c_parser.specs.declared.want.Want.TheVariants.{Operand, Rest, Named, Dot, Colon, Opened}
 use Rattle.c_parser.specs.declared.want.Want.TheVariants.{FirstArgument}
 use Rattle.c_parser.specs.declared.want.Want.TheVariants.{MoreArguments, NewOpen, Ident, Digits}
 use Rattle.c_parser.specs.declared.want.Want.TheVariants.{Semicolon, StructWord, Star, RootWord}
@@ -63,8 +64,8 @@ use Rattle.c_parser.specs.inside.Wants.{apply_move, move, parser_step}
 use Rattle.c_parser.specs.inside.Run.{Accepted, ends, parse_on, parse_run}
 use Rattle.c_parser.proofs.Steps.{IsToken, run_at, at_token, present}
 use Rattle.c_parser.proofs.Flat.{Flat, f_number, f_null, f_name, f_root, f_new, f_sign, f_round}
-use Rattle.c_parser.proofs.Flat.{Tail, f_end, f_operator, f_field, f_index, f_sides, AfterName}
-use Rattle.c_parser.proofs.Flat.{f_plain}
+use Rattle.c_parser.proofs.Flat.{f_cast, Tail, f_end, f_operator, f_field, f_index, f_sides}
+use Rattle.c_parser.proofs.Flat.{AfterName, f_plain}
 use Rattle.c_parser.proofs.Flat.{f_call, FirstOf, f_none, f_some, OthersOf, f_close, f_comma}
 use Rattle.c_parser.proofs.Flat.{flat_tree, first_tree}
 
@@ -118,6 +119,7 @@ mark_token mark.CloseSquare = tt
 
 word_token : (w : Word) → IsToken (word_kind w)
 word_token word.Int64 = tt
+word_token word.Uint64 = tt
 word_token word.Void = tt
 word_token word.Struct = tt
 word_token word.Enum = tt
@@ -167,6 +169,11 @@ module _ (ts : List Placed) where
   Stands i (Named n ∷ k) = (j : ℕ) × AfterName ts i j × Stands j k
   Stands i (Dot n ∷ k) = (kind_at ts i ≡ kind.Dot) × (kind_at ts (i + 1) ≡ kind.Name) × (j : ℕ)
       × Tail ts (i + 1 + 1) j × Stands j k
+  Stands i (Opened n ∷ k) =
+      ((m : ℕ) × Flat ts i m × (kind_at ts m ≡ kind.CloseRound) × (j : ℕ) × Tail ts (m + 1) j
+      × Stands j k)
+      ⊎ ((y : IntType) × (kind_at ts i ≡ kind.Int y) × (kind_at ts (i + 1) ≡ kind.CloseRound)
+      × (j : ℕ) × Flat ts (i + 1 + 1) j × Stands j k)
   Stands i (Colon n ∷ k) = (kind_at ts i ≡ kind.Colon) × (j : ℕ) × Flat ts (i + 1) j × Stands j k
   Stands i (FirstArgument ∷ k) = (j : ℕ) × FirstOf ts i j × Stands j k
   Stands i (MoreArguments ∷ k) = (j : ℕ) × OthersOf ts i j × Stands j k
@@ -259,7 +266,9 @@ module _ (ts : List Placed) where
     operand_back n k kind.Name is u (j, tail, st) = (j, f_name is tail, st)
     operand_back n k kind.Root is u (d, nm, j, tail, st) = (j, f_root is d nm tail, st)
     operand_back n k kind.PmNew is u (o, s, nm, c, (j, tail, st)) = (j, f_new is o s nm c tail, st)
-    operand_back n k kind.OpenRound is u (m, f, (c, (j, tail, st))) = (j, f_round is f c tail, st)
+    operand_back n k kind.OpenRound is u (inl (m, f, c, j, tail, st)) =
+        (j, f_round is f c tail, st)
+    operand_back n k kind.OpenRound is u (inr (y, w, c, j, f, st)) = (j, f_cast y is w c f, st)
     operand_back n k (kind.Operator op.Sub) is u (j, f, st) =
         (j, f_sign unary.Negate (ap sign_of is) f, st)
     operand_back n k kind.Not is u (j, f, st) = (j, f_sign unary.Not (ap sign_of is) f, st)
@@ -341,6 +350,34 @@ module _ (ts : List Placed) where
         → Then (i + 1) (apply_move (wants.dot n t) k u) → Stands i (Dot n ∷ k)
     dot_back n k kind.Dot is u (nm, (j, tail, st)) = (is, nm, j, tail, st)
     dot_back n k _ is u h = absurd h
+
+    -- an expression in an open bracket
+    expression_opened : (n : ℕ) (k : List Want)
+        → (m : ℕ) × Flat ts i m × Stands m (Round ∷ Rest n ∷ k) → Stands i (Opened n ∷ k)
+    expression_opened n k (m, f, (c, (j, tail, st))) = inl (m, f, c, j, tail, st)
+
+    opened_back : (n : ℕ) (k : List Want) (t : Kind) → kind_at ts i ≡ t → (u : Option (List Want))
+        → Then (i + 1) (apply_move (wants.opened n t) k u) → Stands i (Opened n ∷ k)
+    opened_back n k (kind.Int y) is u (c, (j, f, st)) = inr (y, is, c, j, f, st)
+    opened_back n k kind.Number is u h =
+        expression_opened n k (operand_back 0 (Round ∷ Rest n ∷ k) kind.Number is None h)
+    opened_back n k kind.Null is u h =
+        expression_opened n k (operand_back 0 (Round ∷ Rest n ∷ k) kind.Null is None h)
+    opened_back n k kind.Name is u h =
+        expression_opened n k (operand_back 0 (Round ∷ Rest n ∷ k) kind.Name is None h)
+    opened_back n k kind.Root is u h =
+        expression_opened n k (operand_back 0 (Round ∷ Rest n ∷ k) kind.Root is None h)
+    opened_back n k kind.PmNew is u h =
+        expression_opened n k (operand_back 0 (Round ∷ Rest n ∷ k) kind.PmNew is None h)
+    opened_back n k kind.OpenRound is u h =
+        expression_opened n k (operand_back 0 (Round ∷ Rest n ∷ k) kind.OpenRound is None h)
+    opened_back n k (kind.Operator op.Sub) is u h = expression_opened n k
+        (operand_back 0 (Round ∷ Rest n ∷ k) (kind.Operator op.Sub) is None h)
+    opened_back n k kind.Not is u h =
+        expression_opened n k (operand_back 0 (Round ∷ Rest n ∷ k) kind.Not is None h)
+    opened_back n k kind.Tilde is u h =
+        expression_opened n k (operand_back 0 (Round ∷ Rest n ∷ k) kind.Tilde is None h)
+    opened_back n k _ is u h = absurd h
 
     colon_back : (n : ℕ) (k : List Want) (t : Kind) → kind_at ts i ≡ t → (u : Option (List Want))
         → Then (i + 1) (apply_move (wants.colon n t) k u) → Stands i (Colon n ∷ k)
@@ -501,7 +538,7 @@ module _ (ts : List Placed) where
     typed_back : (k : List Want) (t : Kind) → kind_at ts i ≡ t → (u : Option (List Want))
         → Then (i + 1) (apply_move (wants.type_begins t) k u) → (j : ℕ) × (x : TypeTree)
         × Typed ts i j x × Stands j k
-    typed_back k kind.Int is u st = (i + 1, tree.Int, int is, st)
+    typed_back k (kind.Int y) is u st = (i + 1, tree.Int y, int y is, st)
     typed_back k kind.Struct is u (nm, (s, st)) =
         (i + 1 + 1 + 1, tree.Pointer (ident_at ts (i + 1)), pointer is nm s, st)
     typed_back k _ is u h = absurd h
@@ -549,8 +586,8 @@ module _ (ts : List Placed) where
         → (u : Option (List Want)) → Then (i + 1) (apply_move (wants.statement loop t) k u)
         → (j : ℕ) × (s : StmtTree) × Spells ts loop i j s × Stands j k
     statement_back loop k kind.Semicolon is u st = (i + 1, tree.Empty, empty is, st)
-    statement_back loop k kind.Int is u h = let r =
-        declares_back (Semicolon ∷ k) kind.Int is None h in
+    statement_back loop k (kind.Int y) is u h = let r =
+        declares_back (Semicolon ∷ k) (kind.Int y) is None h in
         (r.0 + 1, tree.Declares r.1, declares r.2 r.3.0, r.3.1)
     statement_back loop k kind.Struct is u h = let r =
         declares_back (Semicolon ∷ k) kind.Struct is None h in
@@ -602,7 +639,7 @@ module _ (ts : List Placed) where
     body_back loop k kind.OpenBrace is u (j, all, h, z, st) =
         (j + 1, tree.Block all, block is h z, st)
     body_back loop k kind.Semicolon is u h = statement_back loop (Bare ∷ k) kind.Semicolon is None h
-    body_back loop k kind.Int is u h = statement_back loop (Bare ∷ k) kind.Int is None h
+    body_back loop k (kind.Int y) is u h = statement_back loop (Bare ∷ k) (kind.Int y) is None h
     body_back loop k kind.Struct is u h = statement_back loop (Bare ∷ k) kind.Struct is None h
     body_back loop k kind.If is u h = statement_back loop (Bare ∷ k) kind.If is None h
     body_back loop k kind.While is u h = statement_back loop (Bare ∷ k) kind.While is None h
@@ -640,8 +677,8 @@ module _ (ts : List Placed) where
     block_back loop k kind.CloseBrace is u h = (i, tree.Nothing, nothing, is, h)
     block_back loop k kind.Semicolon is u h =
         prepend loop k (statement_back loop (Block loop ∷ k) kind.Semicolon is None h)
-    block_back loop k kind.Int is u h =
-        prepend loop k (statement_back loop (Block loop ∷ k) kind.Int is None h)
+    block_back loop k (kind.Int y) is u h =
+        prepend loop k (statement_back loop (Block loop ∷ k) (kind.Int y) is None h)
     block_back loop k kind.Struct is u h =
         prepend loop k (statement_back loop (Block loop ∷ k) kind.Struct is None h)
     block_back loop k kind.If is u h =
@@ -690,7 +727,7 @@ module _ (ts : List Placed) where
         → (Then (i + 1) (parser_step k t) → Stands i k)
         → Then (i + 1) (apply_move (wants.for_first t) k (parser_step k t))
         → Stands i (ForFirst ∷ k)
-    first_part_back k kind.Int is other h = let r = declares_back k kind.Int is None h in
+    first_part_back k (kind.Int y) is other h = let r = declares_back k (kind.Int y) is None h in
         (r.0, Some (tree.Declare r.1), first_declares r.2, r.3)
     first_part_back k kind.Struct is other h = let r = declares_back k kind.Struct is None h in
         (r.0, Some (tree.Declare r.1), first_declares r.2, r.3)
@@ -771,14 +808,14 @@ module _ (ts : List Placed) where
     fields_back : (k : List Want) (t : Kind) → kind_at ts i ≡ t → (u : Option (List Want))
         → Then (i + 1) (apply_move (wants.fields t) k u) → Stands i (Fields ∷ k)
     fields_back k kind.CloseBrace is u h = (i, [], fields_end, is, h)
-    fields_back k kind.Int is u h = fields_one k kind.Int is None h
+    fields_back k (kind.Int y) is u h = fields_one k (kind.Int y) is None h
     fields_back k kind.Struct is u h = fields_one k kind.Struct is None h
     fields_back k _ is u h = absurd h
 
     result_back : (k : List Want) (t : Kind) → kind_at ts i ≡ t → (u : Option (List Want))
         → Then (i + 1) (apply_move (wants.result_begins t) k u) → Stands i (Result ∷ k)
     result_back k kind.Void is u st = (i + 1, None, result_void is, st)
-    result_back k kind.Int is u h = let r = typed_back k kind.Int is None h in
+    result_back k (kind.Int y) is u h = let r = typed_back k (kind.Int y) is None h in
         (r.0, Some r.1, result_some r.2, r.3)
     result_back k kind.Struct is u h = let r = typed_back k kind.Struct is None h in
         (r.0, Some r.1, result_some r.2, r.3)
@@ -815,7 +852,7 @@ module _ (ts : List Placed) where
         → Then (i + 1) (apply_move (wants.parameters_move t) k u) → Stands i (Parameters ∷ k)
     parameters_back k kind.CloseRound is u st = (i + 1, [], signature_none is, st)
     parameters_back k kind.Void is u (c, st) = (i + 1 + 1, [], signature_void is c, st)
-    parameters_back k kind.Int is u h = parameters_one k kind.Int is None h
+    parameters_back k (kind.Int y) is u h = parameters_one k (kind.Int y) is None h
     parameters_back k kind.Struct is u h = parameters_one k kind.Struct is None h
     parameters_back k _ is u h = absurd h
 
@@ -915,8 +952,8 @@ module _ (ts : List Placed) where
       let f = functioned m (Items ∷ k) h in
       let x = made true mark_of.Plain (i + 1) m f.1 r rt f.0 f.2 in
       item_more i f.1 x.0 (transaction (unmarked is) x.1) f.3
-  items_back i k kind.Int is token h =
-      item_plain i (i + 1) k (Some tree.Int) (result_some (int is)) h
+  items_back i k (kind.Int y) is token h =
+      item_plain i (i + 1) k (Some (tree.Int y)) (result_some (int y is)) h
   items_back i k kind.Void is token h = item_plain i (i + 1) k None (result_void is) h
   items_back i k kind.End is token h = absurd token
   items_back i k _ is token h = absurd h
@@ -933,6 +970,7 @@ module _ (ts : List Placed) where
     back (Rest n ∷ k) t is token h = rest_back i n k t is (λ g. back k t is token g) h
     back (Named n ∷ k) t is token h = named_back i n k t is (λ g. back k t is token g) h
     back (Dot n ∷ k) t is token h = dot_back i n k t is (parser_step k t) h
+    back (Opened n ∷ k) t is token h = opened_back i n k t is (parser_step k t) h
     back (Colon n ∷ k) t is token h = colon_back i n k t is (parser_step k t) h
     back (FirstArgument ∷ k) t is token h = first_back i k t is (parser_step k t) h
     back (MoreArguments ∷ k) t is token h = more_back i k t is (parser_step k t) h
@@ -993,6 +1031,7 @@ module _ (ts : List Placed) where
   at_last (Items ∷ k) h = ([], items_end)
   at_last (Operand n ∷ k) h = absurd h
   at_last (Dot n ∷ k) h = absurd h
+  at_last (Opened n ∷ k) h = absurd h
   at_last (Colon n ∷ k) h = absurd h
   at_last (FirstArgument ∷ k) h = absurd h
   at_last (MoreArguments ∷ k) h = absurd h

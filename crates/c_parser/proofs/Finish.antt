@@ -13,7 +13,7 @@ use Rattle.c_tree.specs.declared.stmt.AssignOp.TheVariants as assign
 use Rattle.c_tree.specs.declared.kind.Kind.{Kind}
 use Rattle.c_tree.specs.declared.kind.Kind.TheVariants as kind
 use Rattle.c_parser.specs.declared.want.Want.{Want}
-use Rattle.c_parser.specs.declared.want.Want.TheVariants.{Operand, Rest, Named, Dot, Colon}
+use Rattle.c_parser.specs.declared.want.Want.TheVariants.{Operand, Rest, Named, Dot, Colon, Opened}
 use Rattle.c_parser.specs.declared.want.Want.TheVariants.{FirstArgument}
 use Rattle.c_parser.specs.declared.want.Want.TheVariants.{MoreArguments, NewOpen, Ident, Digits}
 use Rattle.c_parser.specs.declared.want.Want.TheVariants.{Semicolon, StructWord, Star, RootWord}
@@ -46,6 +46,7 @@ Follows (Operand n) k = IsCloser k
 Follows (Rest n) k = IsCloser k
 Follows (Named n) k = IsCloser k
 Follows (Dot n) k = IsCloser k
+Follows (Opened n) k = IsCloser k
 Follows (Colon n) k = IsCloser k
 Follows (Target n) k = IsCloser k
 Follows NamedTarget k = IsCloser k
@@ -75,7 +76,7 @@ operand_fine n k kind.Null u c f = (c, f)
 operand_fine n k kind.Name u c f = (c, f)
 operand_fine n k kind.Root u c f = (c, f)
 operand_fine n k kind.PmNew u c f = (tt, (c, f))
-operand_fine n k kind.OpenRound u c f = (tt, (tt, (c, f)))
+operand_fine n k kind.OpenRound u c f = (c, f)
 operand_fine n k (kind.Operator op.Sub) u c f = (c, f)
 operand_fine n k kind.Not u c f = (c, f)
 operand_fine n k kind.Tilde u c f = (c, f)
@@ -103,6 +104,20 @@ dot_fine : (n : ℕ) (k : List Want) (t : Kind) (u : Option (List Want)) → IsC
 dot_fine n k kind.Dot u c f = (tt, (c, f))
 dot_fine n k _ u c f = tt
 
+opened_fine : (n : ℕ) (k : List Want) (t : Kind) (u : Option (List Want)) → IsCloser k → Fine k
+    → IfFine (apply_move (wants.opened n t) k u)
+opened_fine n k (kind.Int y) u c f = (tt, (c, f))
+opened_fine n k kind.Number u c f = (tt, (tt, (c, f)))
+opened_fine n k kind.Null u c f = (tt, (tt, (c, f)))
+opened_fine n k kind.Name u c f = (tt, (tt, (c, f)))
+opened_fine n k kind.Root u c f = (tt, (tt, (c, f)))
+opened_fine n k kind.PmNew u c f = (tt, (tt, (tt, (c, f))))
+opened_fine n k kind.OpenRound u c f = (tt, (tt, (c, f)))
+opened_fine n k (kind.Operator op.Sub) u c f = (tt, (tt, (c, f)))
+opened_fine n k kind.Not u c f = (tt, (tt, (c, f)))
+opened_fine n k kind.Tilde u c f = (tt, (tt, (c, f)))
+opened_fine n k _ u c f = tt
+
 colon_fine : (n : ℕ) (k : List Want) (t : Kind) (u : Option (List Want)) → IsCloser k → Fine k
     → IfFine (apply_move (wants.colon n t) k u)
 colon_fine n k kind.Colon u c f = (c, f)
@@ -116,7 +131,7 @@ first_fine k kind.Null u f = (tt, (tt, f))
 first_fine k kind.Name u f = (tt, (tt, f))
 first_fine k kind.Root u f = (tt, (tt, f))
 first_fine k kind.PmNew u f = (tt, (tt, (tt, f)))
-first_fine k kind.OpenRound u f = (tt, (tt, (tt, (tt, f))))
+first_fine k kind.OpenRound u f = (tt, (tt, f))
 first_fine k (kind.Operator op.Sub) u f = (tt, (tt, f))
 first_fine k kind.Not u f = (tt, (tt, f))
 first_fine k kind.Tilde u f = (tt, (tt, f))
@@ -230,7 +245,7 @@ value_fine k kind.Null u c f g = (c, f)
 value_fine k kind.Name u c f g = (c, f)
 value_fine k kind.Root u c f g = (c, f)
 value_fine k kind.PmNew u c f g = (tt, (c, f))
-value_fine k kind.OpenRound u c f g = (tt, (tt, (c, f)))
+value_fine k kind.OpenRound u c f g = (c, f)
 value_fine k (kind.Operator op.Sub) u c f g = (c, f)
 value_fine k kind.Not u c f g = (c, f)
 value_fine k kind.Tilde u c f g = (c, f)
@@ -240,7 +255,7 @@ body_fine : (loop : Bool) (k : List Want) (t : Kind) (u : Option (List Want)) �
     → IfFine (apply_move (wants.body loop t) k u)
 body_fine loop k kind.OpenBrace u f = (tt, f)
 body_fine loop k kind.Semicolon u f = (tt, f)
-body_fine loop k kind.Int u f = (tt, (tt, (tt, (tt, f))))
+body_fine loop k (kind.Int y) u f = (tt, (tt, (tt, (tt, f))))
 body_fine loop k kind.Struct u f = (tt, (tt, (tt, (tt, (tt, (tt, f))))))
 body_fine loop k kind.If u f = (tt, (tt, (tt, (tt, f))))
 body_fine loop k kind.While u f = (tt, (tt, (tt, f)))
@@ -265,7 +280,7 @@ block_fine : (loop : Bool) (k : List Want) (t : Kind) (u : Option (List Want)) �
     → IfFine (apply_move (wants.block loop t) k u)
 block_fine loop k kind.CloseBrace u f = f
 block_fine loop k kind.Semicolon u f = (tt, f)
-block_fine loop k kind.Int u f = (tt, (tt, (tt, (tt, f))))
+block_fine loop k (kind.Int y) u f = (tt, (tt, (tt, (tt, f))))
 block_fine loop k kind.Struct u f = (tt, (tt, (tt, (tt, (tt, (tt, f))))))
 block_fine loop k kind.OpenBrace u f = (tt, (tt, f))
 block_fine loop k kind.If u f = (tt, (tt, (tt, (tt, f))))
@@ -299,7 +314,7 @@ open_for_fine k _ u f = tt
 
 for_first_fine : (k : List Want) (t : Kind) (u : Option (List Want)) → IsCloser k → Fine k
     → IfFine u → IfFine (apply_move (wants.for_first t) k u)
-for_first_fine k kind.Int u c f g = (tt, (c, f))
+for_first_fine k (kind.Int y) u c f g = (tt, (c, f))
 for_first_fine k kind.Struct u c f g = (tt, (tt, (tt, (c, f))))
 for_first_fine k kind.Name u c f g = (c, f)
 for_first_fine k kind.Number u c f g = (c, f)
@@ -325,14 +340,14 @@ for_third_fine k _ u c f g = g
 
 type_fine : (k : List Want) (t : Kind) (u : Option (List Want)) → Fine k
     → IfFine (apply_move (wants.type_begins t) k u)
-type_fine k kind.Int u f = f
+type_fine k (kind.Int y) u f = f
 type_fine k kind.Struct u f = (tt, (tt, f))
 type_fine k _ u f = tt
 
 fields_fine : (k : List Want) (t : Kind) (u : Option (List Want)) → Fine k
     → IfFine (apply_move (wants.fields t) k u)
 fields_fine k kind.CloseBrace u f = f
-fields_fine k kind.Int u f = (tt, (tt, (tt, (tt, f))))
+fields_fine k (kind.Int y) u f = (tt, (tt, (tt, (tt, f))))
 fields_fine k kind.Struct u f = (tt, (tt, (tt, (tt, (tt, (tt, f))))))
 fields_fine k _ u f = tt
 
@@ -344,7 +359,7 @@ length_fine k _ u f g = g
 result_fine : (k : List Want) (t : Kind) (u : Option (List Want)) → Fine k
     → IfFine (apply_move (wants.result_begins t) k u)
 result_fine k kind.Void u f = f
-result_fine k kind.Int u f = f
+result_fine k (kind.Int y) u f = f
 result_fine k kind.Struct u f = (tt, (tt, f))
 result_fine k _ u f = tt
 
@@ -363,7 +378,7 @@ parameters_fine : (k : List Want) (t : Kind) (u : Option (List Want)) → Fine k
     → IfFine (apply_move (wants.parameters_move t) k u)
 parameters_fine k kind.CloseRound u f = f
 parameters_fine k kind.Void u f = (tt, f)
-parameters_fine k kind.Int u f = (tt, (tt, f))
+parameters_fine k (kind.Int y) u f = (tt, (tt, f))
 parameters_fine k kind.Struct u f = (tt, (tt, (tt, (tt, f))))
 parameters_fine k _ u f = tt
 
@@ -390,7 +405,7 @@ items_fine k kind.End u e f g = g
 items_fine k kind.Struct u e f g = (tt, (tt, (e, f)))
 items_fine k kind.Persistent u e f g = (tt, (tt, (tt, (tt, (e, f)))))
 items_fine k kind.Tx u e f g = (tt, (tt, (tt, (tt, (e, f)))))
-items_fine k kind.Int u e f g = (tt, (tt, (tt, (e, f))))
+items_fine k (kind.Int y) u e f g = (tt, (tt, (tt, (e, f))))
 items_fine k kind.Void u e f g = (tt, (tt, (tt, (e, f))))
 items_fine k _ u e f g = tt
 
@@ -405,6 +420,7 @@ step_fine (Operand n ∷ k) t f = operand_fine n k t (parser_step k t) f.0 f.1
 step_fine (Rest n ∷ k) t f = rest_fine n k t (parser_step k t) f.0 f.1 (step_fine k t f.1)
 step_fine (Named n ∷ k) t f = named_fine n k t (parser_step k t) f.0 f.1 (step_fine k t f.1)
 step_fine (Dot n ∷ k) t f = dot_fine n k t (parser_step k t) f.0 f.1
+step_fine (Opened n ∷ k) t f = opened_fine n k t (parser_step k t) f.0 f.1
 step_fine (Colon n ∷ k) t f = colon_fine n k t (parser_step k t) f.0 f.1
 step_fine (FirstArgument ∷ k) t f = first_fine k t (parser_step k t) f.1
 step_fine (MoreArguments ∷ k) t f = more_fine k t (parser_step k t) f.1
@@ -465,6 +481,7 @@ finish (Operand n ∷ k) = digits ∷ finish k
 finish (Rest n ∷ k) = finish k
 finish (Named n ∷ k) = finish k
 finish (Dot n ∷ k) = m mark.Dot ∷ name ∷ finish k
+finish (Opened n ∷ k) = digits ∷ m mark.CloseRound ∷ finish k
 finish (Colon n ∷ k) = m mark.Colon ∷ digits ∷ finish k
 finish (FirstArgument ∷ k) = m mark.CloseRound ∷ finish k
 finish (MoreArguments ∷ k) = m mark.CloseRound ∷ finish k
@@ -544,6 +561,7 @@ finish_no_else (Operand n ∷ k) = λ h. cc
 finish_no_else (Rest n ∷ k) = finish_no_else k
 finish_no_else (Named n ∷ k) = finish_no_else k
 finish_no_else (Dot n ∷ k) = λ h. cc
+finish_no_else (Opened n ∷ k) = λ h. cc
 finish_no_else (Colon n ∷ k) = λ h. cc
 finish_no_else (FirstArgument ∷ k) = λ h. cc
 finish_no_else (MoreArguments ∷ k) = λ h. cc
@@ -603,6 +621,8 @@ finish_runs (Operand n ∷ k) p f = unmet (Rest n) refl refl refl refl k (p + 1)
 finish_runs (Rest n ∷ k) p f = unmet (Rest n) refl refl refl refl k p f.0 ∙ finish_runs k p f.1
 finish_runs (Named n ∷ k) p f = unmet (Named n) refl refl refl refl k p f.0 ∙ finish_runs k p f.1
 finish_runs (Dot n ∷ k) p f = unmet (Rest (n + 1)) refl refl refl refl k (p + 1 + 1) f.0
+    ∙ finish_runs k (p + 1 + 1) f.1
+finish_runs (Opened n ∷ k) p f = unmet (Rest n) refl refl refl refl k (p + 1 + 1) f.0
     ∙ finish_runs k (p + 1 + 1) f.1
 finish_runs (Colon n ∷ k) p f = unmet (Rest n) refl refl refl refl k (p + 1 + 1) f.0
     ∙ finish_runs k (p + 1 + 1) f.1

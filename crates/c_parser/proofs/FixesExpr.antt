@@ -6,7 +6,9 @@ use Rattle.c_tree.specs.declared.expr.Expr.{Expr}
 use Rattle.std.proofs.lemmas.Bool.{eqb-true}
 use Rattle.c_lexer.specs.declared.token.Placed.{Placed}
 use Rattle.c_tree.specs.declared.expr.BinaryOp.{BinaryOp}
+use Rattle.c_tree.specs.declared.expr.IntType.{IntType}
 use Rattle.c_tree.specs.declared.expr.UnaryOp.{UnaryOp}
+use Rattle.c_tree.specs.declared.expr.UnaryOp.TheVariants as unary
 use Rattle.c_tree.specs.declared.kind.Kind.{Kind}
 use Rattle.c_tree.specs.declared.kind.Kind.TheVariants as kind
 use Rattle.c_tree.specs.Kinds.{kind_at, ident_at, value_at}
@@ -15,13 +17,13 @@ use Rattle.c_tree.specs.ExprTree.{ExprTree, Ident, expr_of}
 use Rattle.c_tree.specs.ExprTree as tree
 use Rattle.c_tree.specs.inside.ExprTree as inside_tree
 use Rattle.c_tree.specs.Spelling.{Expression, unconditional, conditional, Level, level_zero}
-use Rattle.c_tree.specs.Spelling.{level_suc, Chain, chain_end, chain_more, Unary, signed, unsigned}
-use Rattle.c_tree.specs.Spelling.{Postfix, postfix, Parts, parts_end, field}
+use Rattle.c_tree.specs.Spelling.{level_suc, Chain, chain_end, chain_more, Unary, signed, cast}
+use Rattle.c_tree.specs.Spelling.{unsigned, Postfix, postfix, Parts, parts_end, field}
 use Rattle.c_tree.specs.Spelling.{element, Primary, number, null, variable, call, root, new}
 use Rattle.c_tree.specs.Spelling.{brackets, SpellsArguments, no_arguments, arguments, MoreArguments}
 use Rattle.c_tree.specs.Spelling.{no_more, more}
 use Rattle.c_parser.specs.inside.Fixes.{Fixes, DerivesFrom, IsFollowed, Over, Uncalled}
-use Rattle.c_parser.specs.inside.Pieces.{FromCondition, sides}
+use Rattle.c_parser.specs.inside.Pieces.{FromCondition, sides, FromWord, cast_from, cast_of}
 use Rattle.c_parser.proofs.Steps.{IsToken}
 use Rattle.c_parser.proofs.Forward.{Begins, expression_begins}
 use Rattle.c_tree.proofs.Trees.{followed_by-nothing, followed_by-one_more, expr_of-Call}
@@ -528,17 +530,89 @@ unary_signed ts i n j o e x is next fixes h = record { same = λ k t g. taken g.
         { spelled = subst (λ n. Unary ts n k u) (sym here) d; following = over }) in
         let op : p ≡ o = cc in
         (f.0, cc)
+    taken (cast m was word close d) over =
+        let g : Some o ≡ None = is ∙ ap sign_of was in absurd (cc)
     taken (unsigned d) over = absurd (not_signed o (sym is) d)
 
+-- a type's word in a bracket
+cast_kinds : (k l : Kind) (n : IntType) → Some n ≡ cast_of k l → (k ≡ kind.OpenRound)
+    × (l ≡ kind.Int n)
+cast_kinds kind.OpenRound (kind.Int m) n h = let e : m ≡ n = cc in (refl, ap kind.Int e)
+cast_kinds _ _ n h = absurd (cc)
+
+cast_place : (ts : List Placed) (i m : ℕ) (n : IntType)
+    → Some n ≡ cast_of (kind_at ts i) (kind_at ts (i + 1)) → (i < length ts → m ≡ i + 1)
+    → m ≡ i + 1
+cast_place ts i m n is next = let g = cast_kinds (kind_at ts i) (kind_at ts (i + 1)) n is in
+    next (inside_at ts i kind.OpenRound g.0 tt)
+
+pub cast_word : (ts : List Placed) (i m : ℕ) (n : IntType)
+    → Some n ≡ cast_of (kind_at ts i) (kind_at ts (i + 1)) → (i < length ts → m ≡ i + 1)
+    → kind_at ts m ≡ kind.Int n
+cast_word ts i m n is next = ap (kind_at ts) (cast_place ts i m n is next)
+    ∙ (cast_kinds (kind_at ts i) (kind_at ts (i + 1)) n is).1
+
+pub unary_cast : (ts : List Placed) (i m : ℕ) (n : IntType)
+    → Some n ≡ cast_of (kind_at ts i) (kind_at ts (i + 1)) → (i < length ts → m ≡ i + 1)
+    → None ≡ sign_of (kind_at ts i)
+    → DerivesFrom (IsFollowed ts (Over 0) (Unary ts i)) (IsFollowed ts (Over 0) (FromWord ts m n))
+unary_cast ts i m n is next sign = record {
+  on = λ k t h.
+      record { spelled = taken h.spelled; following = h.following };
+}
+  where
+    word : kind_at ts (i + 1) ≡ kind.Int n
+    word = (cast_kinds (kind_at ts i) (kind_at ts (i + 1)) n is).1
+
+    bracket : kind.OpenRound ≡ kind_at ts i
+    bracket = sym (cast_kinds (kind_at ts i) (kind_at ts (i + 1)) n is).0
+
+    from_bracket : {k : ℕ} {t : ExprTree} → PrimaryOf ts i k t kind.OpenRound → ⊥
+    from_bracket p = subst Begins word (expression_begins p.1)
+
+    taken : {k : ℕ} {t : ExprTree} → Unary ts i k t → FromWord ts m n k t
+    taken (signed o was d) = absurd (cc)
+    taken {k} (cast {e = e} p was int close d) =
+        let same : p ≡ n = let g : kind.Int p ≡ kind.Int n = sym int ∙ word in cc in
+        subst (λ m. FromWord ts m n k (tree.Unary (unary.Cast p) (i + 1) e))
+        (sym (cast_place ts i m n is next))
+        (subst (λ p. FromWord ts (i + 1) n k (tree.Unary (unary.Cast p) (i + 1) e)) (sym same)
+        (cast_from word close d))
+    taken (unsigned (postfix first parts)) =
+        absurd (from_bracket (primary_is kind.OpenRound bracket first))
+
+pub cast_made : (ts : List Placed) (i n m j : ℕ) (int : IntType) (e x : ExprTree)
+    → kind_at ts i ≡ kind.Int int → (i < length ts → n ≡ i + 1) → (n < length ts → m ≡ n + 1)
+    → Fixes (IsFollowed ts (Over 0) (Unary ts m)) j e → x ≡ tree.Unary (unary.Cast int) i e
+    → Fixes (IsFollowed ts (Over 0) (FromWord ts i int)) j x
+cast_made ts i n m j int e x is to_n to_m fixes h = record {
+  same = λ k t g. taken g.spelled g.following;
+}
+  where
+    taken : {k : ℕ} {t : ExprTree} → FromWord ts i int k t → Over 0 (kind_at ts k)
+        → (j ≡ k) × (x ≡ t)
+    taken {k} (cast_from {e = u} was close d) over =
+        let here : n ≡ i + 1 = to_n (inside_at ts i (kind.Int int) is tt) in
+        let there : m ≡ i + 1 + 1 = subst (λ n. n < length ts → m ≡ n + 1) here to_m
+        (inside_at ts (i + 1) kind.CloseRound close tt) in
+        let f = fixes.same k u (record
+        { spelled = subst (λ m. Unary ts m k u) (sym there) d; following = over }) in
+        (f.0, h ∙ ap (tree.Unary (unary.Cast int) i) f.1)
+
 pub unary_unsigned : (ts : List Placed) (i : ℕ) → None ≡ sign_of (kind_at ts i)
+    → None ≡ cast_of (kind_at ts i) (kind_at ts (i + 1))
     → DerivesFrom (IsFollowed ts (Over 0) (Unary ts i)) (IsFollowed ts (Over 0) (Postfix ts i))
-unary_unsigned ts i is = record {
+unary_unsigned ts i is no_cast = record {
   on = λ k t h.
       record { spelled = taken h.spelled; following = h.following };
 }
   where
     taken : {k : ℕ} {t : ExprTree} → Unary ts i k t → Postfix ts i k t
     taken (signed p was d) = absurd (cc)
+    taken (cast n was word close d) =
+        let g : None ≡ Some n = no_cast ∙ ap (λ k. cast_of k (kind_at ts (i + 1))) was
+        ∙ ap (cast_of kind.OpenRound) word in
+        absurd (cc)
     taken (unsigned d) = d
 
 -- the parts after a primary
@@ -637,7 +711,9 @@ pub ruleset whole = (led_expr, condition_alone, condition_first)
 
 pub ruleset conditions = (both_sides)
 
-pub ruleset unaries = (led_expr, unary_signed, unary_unsigned)
+pub ruleset unaries = (led_expr, unary_signed, unary_unsigned, cast_word, unary_cast)
+
+pub ruleset casts = (cast_made)
 
 pub ruleset postfixes = (led_expr, postfix_to_parts)
 

@@ -462,7 +462,7 @@ function_begins : {ts : List Placed} {tx : Bool} {b : Marked} {i k : ℕ} {t : I
     → SpellsFunction ts tx b i k t → kind_at ts i ≡ kind.Struct
     → (kind_at ts (i + 1) ≡ kind.Name) × (kind_at ts (i + 1 + 1) ≡ kind.Operator op.Mul)
 function_begins (function (result_void v) was opens two brace three close) is = absurd (cc)
-function_begins (function (result_some (int v)) was opens two brace three close) is = absurd (cc)
+function_begins (function (result_some (int y v)) was opens two brace three close) is = absurd (cc)
 function_begins (function (result_some (pointer v name star)) was opens two brace three close) is =
     (name, star)
 
@@ -493,7 +493,7 @@ item_root ts i be = record { on = λ k t d. taken d }
     no_function : {tx : Bool} {b : Marked} {k : ℕ} {t : ItemTree} → SpellsFunction ts tx b i k t
         → kind.Persistent ≡ kind_at ts i → ⊥
     no_function (function (result_void v) was opens two brace three close) is = cc
-    no_function (function (result_some (int v)) was opens two brace three close) is = cc
+    no_function (function (result_some (int y v)) was opens two brace three close) is = cc
     no_function (function (result_some (pointer v name star)) was opens two brace three close) is =
         cc
 
@@ -557,7 +557,7 @@ item_transaction ts i n b be fixes = record { on = λ k t d. taken d }
     no_function : {tx : Bool} {c : Marked} {k : ℕ} {t : ItemTree} → SpellsFunction ts tx c i k t
         → kind.Tx ≡ kind_at ts i → ⊥
     no_function (function (result_void v) was opens two brace three close) is = cc
-    no_function (function (result_some (int v)) was opens two brace three close) is = cc
+    no_function (function (result_some (int y v)) was opens two brace three close) is = cc
     no_function (function (result_some (pointer v name star)) was opens two brace three close) is =
         cc
 

@@ -4,6 +4,7 @@ use Rattle.std.proofs.Common.{true, false, ◌⊎◌, inl, inr, refl, sym, ap, �
 use Rattle.std.proofs.Common.{Ok, Err, IfOk}
 use Rattle.c_lexer.specs.declared.token.Placed.{Placed}
 use Rattle.c_tree.specs.declared.expr.BinaryOp.TheVariants as op
+use Rattle.c_tree.specs.declared.expr.IntType.{IntType}
 use Rattle.c_tree.specs.declared.stmt.AssignOp.{AssignOp}
 use Rattle.c_tree.specs.declared.stmt.AssignOp.TheVariants as assign
 use Rattle.c_tree.specs.declared.stmt.StepOp.{StepOp}
@@ -35,7 +36,7 @@ use Rattle.c_parser.specs.inside.Pieces.{SpellsChoice, choice_alone, choice_else
 use Rattle.c_parser.specs.inside.Pieces.{repeated, SpellsDo, repeated_after, SpellsCounted, counted}
 use Rattle.c_parser.specs.inside.Pieces.{SpellsPlain, plain_empty}
 use Rattle.c_parser.specs.inside.Pieces.{plain_declares, plain_simply, plain_breaks}
-use Rattle.c_parser.specs.inside.Pieces.{plain_continues, plain_returns, goes_on}
+use Rattle.c_parser.specs.inside.Pieces.{plain_continues, plain_returns, goes_on, int_of}
 use Rattle.c_parser.proofs.Steps.{IsToken}
 use Rattle.c_parser.proofs.Forward.{Begins, expression_begins, postfix_begins}
 use Rattle.c_parser.proofs.ForwardStmt.{TypeBegins, declares_begins, SimpleBegins, simply_begins}
@@ -67,12 +68,13 @@ after_at ts m i n t e is token next =
     subst (λ m. m < length ts → n ≡ m + 1) e next (inside_at ts i t is token)
 
 -- types
-pub typed_int : (ts : List Placed) (i n : ℕ) (x : TypeTree) → kind_at ts i ≢ kind.Struct
-    → (i < length ts → n ≡ i + 1) → x ≡ tree.Int → Fixes (Typed ts i) n x
-typed_int ts i n x not next e = record { same = λ k t d. taken d }
+pub typed_int : (ts : List Placed) (i n : ℕ) (m : IntType) (x : TypeTree)
+    → kind_at ts i ≢ kind.Struct → (i < length ts → n ≡ i + 1) → m ≡ int_of (kind_at ts i)
+    → x ≡ tree.Int m → Fixes (Typed ts i) n x
+typed_int ts i n m x not next f e = record { same = λ k t d. taken d }
   where
     taken : {k : ℕ} {t : TypeTree} → Typed ts i k t → (n ≡ k) × (x ≡ t)
-    taken (int is) = (after ts i n kind.Int is tt next, e)
+    taken (int y is) = (after ts i n (kind.Int y) is tt next, e ∙ ap tree.Int (f ∙ ap int_of is))
     taken (pointer is name star) = absurd (not is)
 
 pub typed_pointer : (ts : List Placed) (i n m j : ℕ) (x : TypeTree) (y : Ident)
@@ -81,7 +83,7 @@ pub typed_pointer : (ts : List Placed) (i n m j : ℕ) (x : TypeTree) (y : Ident
 typed_pointer ts i n m j x y is to_n to_m to_j e f = record { same = λ k t d. taken d }
   where
     taken : {k : ℕ} {t : TypeTree} → Typed ts i k t → (j ≡ k) × (x ≡ t)
-    taken (int was) = absurd (cc)
+    taken (int y was) = absurd (cc)
     taken (pointer was name star) =
         let a = after ts i n kind.Struct is tt to_n in
         let b = after_at ts n (i + 1) m kind.Name a name tt to_m in
@@ -313,13 +315,13 @@ simple_acts ts i m a s is no_free no_abort fixes =
         (subst (λ a. ActsOrCalls ts p.0 k a t) (sym g.1) p.3)
 
 -- the parts of a `for`
-not_type : (k : Kind) → TypeBegins k → k ≢ kind.Int → k ≢ kind.Struct → ⊥
-not_type kind.Int b f g = f refl
+not_type : (k : Kind) → TypeBegins k → ((n : IntType) → k ≢ kind.Int n) → k ≢ kind.Struct → ⊥
+not_type (kind.Int n) b f g = f n refl
 not_type kind.Struct b f g = g refl
 not_type _ b f g = b
 
-no_simple : (k : Kind) → SimpleBegins k → (k ≡ kind.Int) ⊎ (k ≡ kind.Struct) → ⊥
-no_simple k b (inl e) = subst SimpleBegins e b
+no_simple : (k : Kind) → SimpleBegins k → ((n : IntType) × (k ≡ kind.Int n)) ⊎ (k ≡ kind.Struct) → ⊥
+no_simple k b (inl e) = subst SimpleBegins e.1 b
 no_simple k b (inr e) = subst SimpleBegins e b
 
 closed : (k : Kind) → k ≡ kind.Semicolon → ClosesSimple k
@@ -335,14 +337,15 @@ first_part_none ts i is = record { same = λ k t h. taken h.spelled }
     taken (first_simply d) = absurd (subst SimpleBegins (sym is) (simply_begins d))
 
 pub first_part_declares : (ts : List Placed) (i j : ℕ) (d : DeclarationTree) (s : Kind)
-    → s ≡ kind_at ts i → (s ≡ kind.Int) ⊎ (s ≡ kind.Struct)
+    → s ≡ kind_at ts i → ((n : IntType) × (s ≡ kind.Int n)) ⊎ (s ≡ kind.Struct)
     → Fixes (IsFollowed ts (IsOfKind kind.Semicolon) (Declares ts i)) j d
     → Fixes (IsFollowed ts (IsOfKind kind.Semicolon) (FirstPart ts i)) j (Some (tree.Declare d))
 first_part_declares ts i j d s is type fixes =
     record { same = λ k t h. taken h.spelled h.following }
   where
-    no_semicolon : (s : Kind) → s ≡ kind.Semicolon → (s ≡ kind.Int) ⊎ (s ≡ kind.Struct) → ⊥
-    no_semicolon s semi (inl e) = cc
+    no_semicolon : (s : Kind) → s ≡ kind.Semicolon
+        → ((n : IntType) × (s ≡ kind.Int n)) ⊎ (s ≡ kind.Struct) → ⊥
+    no_semicolon s semi (inl e) = let g : kind.Semicolon ≡ kind.Int e.0 = sym semi ∙ e.1 in cc
     no_semicolon s semi (inr e) = cc
 
     taken : {k : ℕ} {t : Option FirstTree} → FirstPart ts i k t → kind_at ts k ≡ kind.Semicolon
@@ -355,7 +358,7 @@ first_part_declares ts i j d s is type fixes =
         absurd (no_simple s (subst SimpleBegins (sym is) (simply_begins dd)) type)
 
 pub first_part_simply : (ts : List Placed) (i j : ℕ) (x : SimpleTree) (s : Kind) → s ≡ kind_at ts i
-    → s ≢ kind.Semicolon → s ≢ kind.Int → s ≢ kind.Struct
+    → s ≢ kind.Semicolon → ((n : IntType) → s ≢ kind.Int n) → s ≢ kind.Struct
     → Fixes (IsFollowed ts ClosesSimple (Simply ts i)) j x
     → Fixes (IsFollowed ts (IsOfKind kind.Semicolon) (FirstPart ts i)) j (Some (tree.Simply x))
 first_part_simply ts i j x s is not_semi not_int not_struct fixes =
@@ -451,7 +454,7 @@ for_read ts i a m b n c p j f v t to_a first to_b second to_c third to_j =
 -- plain statements, by their first token
 abbrev PlainOf : List Placed → ℕ → ℕ → StmtTree → Kind → Type 0
 PlainOf ts i k t kind.Semicolon = (k ≡ i + 1) × (t ≡ tree.Empty)
-PlainOf ts i k t kind.Int = (m : ℕ) × (d : DeclarationTree) × Declares ts i m d
+PlainOf ts i k t (kind.Int n) = (m : ℕ) × (d : DeclarationTree) × Declares ts i m d
     × (kind_at ts m ≡ kind.Semicolon) × (k ≡ m + 1) × (t ≡ tree.Declares d)
 PlainOf ts i k t kind.Struct = (m : ℕ) × (d : DeclarationTree) × Declares ts i m d
     × (kind_at ts m ≡ kind.Semicolon) × (k ≡ m + 1) × (t ≡ tree.Declares d)
@@ -467,7 +470,7 @@ PlainOf ts i k t _ = (m : ℕ) × (s : SimpleTree) × Simply ts i m s × (kind_a
 declares_of : (ts : List Placed) (i m : ℕ) (d : DeclarationTree) (s : Kind) → TypeBegins s
     → Declares ts i m d → kind_at ts m ≡ kind.Semicolon
     → PlainOf ts i (m + 1) (tree.Declares d) s
-declares_of ts i m d kind.Int b h semi = (m, d, h, semi, refl, refl)
+declares_of ts i m d (kind.Int n) b h semi = (m, d, h, semi, refl, refl)
 declares_of ts i m d kind.Struct b h semi = (m, d, h, semi, refl, refl)
 declares_of ts i m d _ b h semi = absurd b
 
@@ -475,7 +478,7 @@ simple_plain : (ts : List Placed) (i m : ℕ) (x : SimpleTree) (s : Kind) → Si
     → Simply ts i m x → kind_at ts m ≡ kind.Semicolon
     → PlainOf ts i (m + 1) (tree.Simple x) s
 simple_plain ts i m x kind.Semicolon b h semi = absurd b
-simple_plain ts i m x kind.Int b h semi = absurd b
+simple_plain ts i m x (kind.Int n) b h semi = absurd b
 simple_plain ts i m x kind.Struct b h semi = absurd b
 simple_plain ts i m x kind.Break b h semi = absurd b
 simple_plain ts i m x kind.Continue b h semi = absurd b
@@ -550,14 +553,14 @@ return_plain ts i n m j c is to_n fixes to_j = record {
 }
 
 declares_plain_is : (ts : List Placed) (i k : ℕ) (t : StmtTree) (s : Kind)
-    → (s ≡ kind.Int) ⊎ (s ≡ kind.Struct) → PlainOf ts i k t s
+    → ((n : IntType) × (s ≡ kind.Int n)) ⊎ (s ≡ kind.Struct) → PlainOf ts i k t s
     → (m : ℕ) × (d : DeclarationTree) × Declares ts i m d × (kind_at ts m ≡ kind.Semicolon)
     × (k ≡ m + 1) × (t ≡ tree.Declares d)
-declares_plain_is ts i k t s (inl e) h = subst (PlainOf ts i k t) e h
+declares_plain_is ts i k t s (inl e) h = subst (PlainOf ts i k t) e.1 h
 declares_plain_is ts i k t s (inr e) h = subst (PlainOf ts i k t) e h
 
 pub declare_plain : (ts : List Placed) (i m j : ℕ) (d : DeclarationTree) (s : Kind)
-    → s ≡ kind_at ts i → (s ≡ kind.Int) ⊎ (s ≡ kind.Struct)
+    → s ≡ kind_at ts i → ((n : IntType) × (s ≡ kind.Int n)) ⊎ (s ≡ kind.Struct)
     → Fixes (IsFollowed ts (IsOfKind kind.Semicolon) (Declares ts i)) m d
     → (m < length ts → j ≡ m + 1) → Fixes (SpellsPlain ts i) j (tree.Declares d)
 declare_plain ts i m j d s is type fixes to_j = record {
@@ -571,11 +574,12 @@ declare_plain ts i m j d s is type fixes to_j = record {
 }
 
 other_plain : (ts : List Placed) (i k : ℕ) (t : StmtTree) (s : Kind) → s ≢ kind.Semicolon
-    → s ≢ kind.Int → s ≢ kind.Struct → s ≢ kind.Break → s ≢ kind.Continue → s ≢ kind.Return
+    → ((n : IntType) → s ≢ kind.Int n) → s ≢ kind.Struct → s ≢ kind.Break
+    → s ≢ kind.Continue → s ≢ kind.Return
     → PlainOf ts i k t s → (m : ℕ) × (x : SimpleTree) × Simply ts i m x
     × (kind_at ts m ≡ kind.Semicolon) × (k ≡ m + 1) × (t ≡ tree.Simple x)
 other_plain ts i k t kind.Semicolon a b c d e f h = absurd (a refl)
-other_plain ts i k t kind.Int a b c d e f h = absurd (b refl)
+other_plain ts i k t (kind.Int n) a b c d e f h = absurd (b n refl)
 other_plain ts i k t kind.Struct a b c d e f h = absurd (c refl)
 other_plain ts i k t kind.Break a b c d e f h = absurd (d refl)
 other_plain ts i k t kind.Continue a b c d e f h = absurd (e refl)
@@ -588,8 +592,8 @@ starts_token _ h = tt
 
 pub simple_is_plain : (ts : List Placed) (i n m j : ℕ) (x : SimpleTree) (s : Kind)
     → s ≡ kind_at ts i
-    → s ≢ kind.Semicolon → s ≢ kind.Int → s ≢ kind.Struct → s ≢ kind.Break → s ≢ kind.Continue
-    → s ≢ kind.Return
+    → s ≢ kind.Semicolon → ((n : IntType) → s ≢ kind.Int n) → s ≢ kind.Struct
+    → s ≢ kind.Break → s ≢ kind.Continue → s ≢ kind.Return
     → (i < length ts → n ≡ i + 1) → i ≤ m → Fixes (IsFollowed ts ClosesSimple (Simply ts i)) m x
     → (m < length ts → n ≤ m + 1 → j ≡ m + 1) → Fixes (SpellsPlain ts i) j (tree.Simple x)
 simple_is_plain ts i n m j x s is a b c d e f to_n stays fixes to_j = record {
@@ -616,7 +620,7 @@ StmtOf ts i k t _ = SpellsPlain ts i k t
 
 type_stmt : (ts : List Placed) (i k : ℕ) (t : StmtTree) (s : Kind) → TypeBegins s
     → SpellsPlain ts i k t → StmtOf ts i k t s
-type_stmt ts i k t kind.Int b h = h
+type_stmt ts i k t (kind.Int n) b h = h
 type_stmt ts i k t kind.Struct b h = h
 type_stmt ts i k t _ b h = absurd b
 

@@ -6,7 +6,9 @@ use Rattle.std.proofs.lemmas.Bool.{eqb-false}
 use Rattle.c_lexer.specs.declared.token.Placed.{Placed}
 use Rattle.c_tree.specs.declared.expr.BinaryOp.{BinaryOp}
 use Rattle.c_tree.specs.declared.expr.BinaryOp.TheVariants as op
+use Rattle.c_tree.specs.declared.expr.IntType.{IntType}
 use Rattle.c_tree.specs.declared.expr.UnaryOp.{UnaryOp}
+use Rattle.c_tree.specs.declared.expr.UnaryOp.TheVariants as unary
 use Rattle.c_tree.specs.declared.kind.Kind.{Kind}
 use Rattle.c_tree.specs.declared.kind.Kind.TheVariants as kind
 use Rattle.c_tree.specs.Kinds.{kind_at, ident_at, value_at}
@@ -14,8 +16,8 @@ use Rattle.c_tree.specs.Operators.{op_at, sign_of, level_of}
 use Rattle.c_tree.specs.ExprTree.{ExprTree}
 use Rattle.c_tree.specs.ExprTree as trees
 use Rattle.c_tree.specs.Spelling.{Expression, unconditional, conditional, Level, level_zero}
-use Rattle.c_tree.specs.Spelling.{level_suc, Chain, chain_end, chain_more, Unary, signed, unsigned}
-use Rattle.c_tree.specs.Spelling.{postfix, Parts, parts_end, field, element}
+use Rattle.c_tree.specs.Spelling.{level_suc, Chain, chain_end, chain_more, Unary, signed, cast}
+use Rattle.c_tree.specs.Spelling.{unsigned, postfix, Parts, parts_end, field, element}
 use Rattle.c_tree.specs.Spelling.{Primary, number, null, variable, call, root, new, brackets}
 use Rattle.c_tree.specs.Spelling.{SpellsArguments, no_arguments, arguments, MoreArguments, no_more}
 use Rattle.c_tree.specs.Spelling.{more}
@@ -33,6 +35,9 @@ mutual
         → Tail ts (i + 1 + 1 + 1 + 1 + 1) j → Flat ts i j
     f_sign : {i j : ℕ} (o : UnaryOp) → sign_of (kind_at ts i) ≡ Some o → Flat ts (i + 1) j
         → Flat ts i j
+    f_cast : {i j : ℕ} (n : IntType) → kind_at ts i ≡ kind.OpenRound
+        → kind_at ts (i + 1) ≡ kind.Int n → kind_at ts (i + 1 + 1) ≡ kind.CloseRound
+        → Flat ts (i + 1 + 1 + 1) j → Flat ts i j
     f_round : {i m j : ℕ} → kind_at ts i ≡ kind.OpenRound → Flat ts (i + 1) m
         → kind_at ts m ≡ kind.CloseRound → Tail ts (m + 1) j → Flat ts i j
 
@@ -196,6 +201,8 @@ mutual
       (r.0, r.1, unsigned (postfix (new is o s n c) r.2), r.3)
   split {ts} {i} (f_sign o is f) = let r = split f in
       (r.0, trees.Unary o i r.1, signed o is r.2, r.3)
+  split {ts} {i} (f_cast n is word close f) = let r = split f in
+      (r.0, trees.Unary (unary.Cast n) (i + 1) r.1, cast n is word close r.2, r.3)
   split {ts} {i} (f_round {m = m} is f close tail) =
       let s = split f in let w = whole ts (i + 1) s.0 m s.1 s.2 s.3 in
       let r = split_tail tail w.0 in (r.0, r.1, unsigned (postfix (brackets is w.1 close) r.2), r.3)

@@ -9,7 +9,7 @@ use Rattle.c_tree.specs.declared.expr.UnaryOp.{UnaryOp}
 use Rattle.c_tree.specs.declared.kind.Kind.{Kind}
 use Rattle.c_tree.specs.declared.kind.Kind.TheVariants as kind
 use Rattle.c_parser.specs.declared.want.Want.{Want}
-use Rattle.c_parser.specs.declared.want.Want.TheVariants.{Operand, Rest, Named, Dot, Colon}
+use Rattle.c_parser.specs.declared.want.Want.TheVariants.{Operand, Rest, Named, Dot, Colon, Opened}
 use Rattle.c_parser.specs.declared.want.Want.TheVariants.{FirstArgument}
 use Rattle.c_parser.specs.declared.want.Want.TheVariants.{MoreArguments, NewOpen, Ident, StructWord}
 use Rattle.c_parser.specs.declared.want.Want.TheVariants.{Round, Square, Value}
@@ -18,8 +18,8 @@ use Rattle.c_tree.specs.Operators.{op_at, sign_of, level_of}
 use Rattle.c_tree.specs.ExprTree.{ExprTree}
 use Rattle.c_tree.specs.ExprTree as trees
 use Rattle.c_tree.specs.Spelling.{Expression, unconditional, conditional, Level, level_zero}
-use Rattle.c_tree.specs.Spelling.{level_suc, Chain, chain_end, chain_more, Unary, signed, unsigned}
-use Rattle.c_tree.specs.Spelling.{Postfix, postfix, Parts, parts_end, field}
+use Rattle.c_tree.specs.Spelling.{level_suc, Chain, chain_end, chain_more, Unary, signed, cast}
+use Rattle.c_tree.specs.Spelling.{unsigned, Postfix, postfix, Parts, parts_end, field}
 use Rattle.c_tree.specs.Spelling.{element, Primary, number, null, variable, call, root, new}
 use Rattle.c_tree.specs.Spelling.{brackets, SpellsArguments, no_arguments, arguments}
 use Rattle.c_tree.specs.Spelling.{MoreArguments as MoreOf, no_more, more}
@@ -150,6 +150,7 @@ postfix_begins (postfix p parts) = primary_begins p
 pub unary_begins : {ts : List Placed} {i j : ℕ} {e : ExprTree} → Unary ts i j e
     → Begins (kind_at ts i)
 unary_begins {ts} {i} (signed o is u) = sign_begins (kind_at ts i) o is
+unary_begins (cast n is word close u) = subst Begins (sym is) tt
 unary_begins (unsigned p) = postfix_begins p
 
 level_begins : {ts : List Placed} {l i j : ℕ} {e : ExprTree} → Level ts l i j e
@@ -174,6 +175,20 @@ first_enters k (kind.Operator op.Sub) h = refl
 first_enters k kind.Not h = refl
 first_enters k kind.Tilde h = refl
 first_enters k _ h = absurd h
+
+-- what an open bracket wants may begin an expression
+opened_enters : (n : ℕ) (k : List Want) (t : Kind) → Begins t
+    → parser_step (Opened n ∷ k) t ≡ parser_step (Operand 0 ∷ Round ∷ Rest n ∷ k) t
+opened_enters n k kind.Number h = refl
+opened_enters n k kind.Null h = refl
+opened_enters n k kind.Name h = refl
+opened_enters n k kind.Root h = refl
+opened_enters n k kind.PmNew h = refl
+opened_enters n k kind.OpenRound h = refl
+opened_enters n k (kind.Operator op.Sub) h = refl
+opened_enters n k kind.Not h = refl
+opened_enters n k kind.Tilde h = refl
+opened_enters n k _ h = absurd h
 
 pub value_enters : (k : List Want) (t : Kind) → Begins t
     → parser_step (Value ∷ k) t ≡ parser_step (Operand 0 ∷ k) t
@@ -285,6 +300,19 @@ mutual
             (sign_steps n (kind_at ts i) o is)) (omega arith)
             ▸ r.3),
       )
+  unary_runs {ts} {i} (cast m is word close u) n k =
+      let r = unary_runs u (n + 1) k in (
+        r.0,
+        r.1,
+        omega (arith, r.2),
+        goes ts i (n + weight k) one_open (Operand n ∷ k) (Opened n ∷ k) kind.OpenRound is tt refl
+            (omega arith)
+            ▸ after_operators 1 (omega arith) (goes ts (i + 1) (n + 1 + weight k) one_open
+            (Opened n ∷ k) (Round ∷ Operand (n + 1) ∷ k) (kind.Int m) word tt refl (omega arith)
+            ▸ goes ts (i + 1 + 1) (n + 1 + weight k) none_open (Round ∷ Operand (n + 1) ∷ k)
+            (Operand (n + 1) ∷ k) kind.CloseRound close tt refl (omega arith)
+            ▸ r.3),
+      )
   unary_runs (unsigned p) n k = postfix_runs p n k
 
   pub postfix_runs : {ts : List Placed} {i j : ℕ} {e : ExprTree} (p : Postfix ts i j e) (n : ℕ)
@@ -390,10 +418,12 @@ mutual
         Rest n,
         after_rest n,
         omega arith,
-        goes ts i (n + weight k) one_open (Operand n ∷ k) (Operand 0 ∷ Round ∷ Rest n ∷ k)
-            kind.OpenRound is tt refl (omega arith)
-            ▸ inside_bracket (omega arith) (over kind.CloseRound close tt r.1 (Round ∷ Rest n ∷ k)
-            r.3)
+        goes ts i (n + weight k) one_open (Operand n ∷ k) (Opened n ∷ k) kind.OpenRound is tt refl
+            (omega arith)
+            ▸ begins_alike ts (i + 1) (Opened n ∷ k) (Operand 0 ∷ Round ∷ Rest n ∷ k)
+            (opened_enters n k (kind_at ts (i + 1)) (expression_begins lv))
+            (inside_bracket (omega arith) (over kind.CloseRound close tt r.1 (Round ∷ Rest n ∷ k)
+            r.3))
             ▸ goes ts m (n + weight k) none_open (Round ∷ Rest n ∷ k) (Rest n ∷ k) kind.CloseRound
             close tt refl (omega arith),
       )

@@ -75,39 +75,39 @@ field_begins (array ty n o d c z) = typed_begins ty
 
 fields_enter : (k : List Want) (t : Kind) → TypeBegins t
     → parser_step (Fields ∷ k) t ≡ typed_step (Ident ∷ Length ∷ Semicolon ∷ Fields ∷ k) t
-fields_enter k kind.Int h = refl
+fields_enter k (kind.Int y) h = refl
 fields_enter k kind.Struct h = refl
 fields_enter k _ h = absurd h
 
 type_enters : (k : List Want) (t : Kind) → TypeBegins t
     → parser_step (TypeName ∷ k) t ≡ typed_step k t
-type_enters k kind.Int h = refl
+type_enters k (kind.Int y) h = refl
 type_enters k kind.Struct h = refl
 type_enters k _ h = absurd h
 
 parameters_enter : (k : List Want) (t : Kind) → TypeBegins t
     → parser_step (Parameters ∷ k) t ≡ typed_step (Ident ∷ MoreParameters ∷ k) t
-parameters_enter k kind.Int h = refl
+parameters_enter k (kind.Int y) h = refl
 parameters_enter k kind.Struct h = refl
 parameters_enter k _ h = absurd h
 
 result_enters : (k : List Want) (t : Kind) → TypeBegins t
     → parser_step (Result ∷ k) t ≡ typed_step k t
-result_enters k kind.Int h = refl
+result_enters k (kind.Int y) h = refl
 result_enters k kind.Struct h = refl
 result_enters k _ h = absurd h
 
 tx_enters : (k : List Want) (t : Kind) → BeginsResult t
     → parser_step (TxResult ∷ k) t ≡ parser_step (Result ∷ k) t
 tx_enters k kind.Void h = refl
-tx_enters k kind.Int h = refl
+tx_enters k (kind.Int y) h = refl
 tx_enters k kind.Struct h = refl
 tx_enters k _ h = absurd h
 
 pub function_result : {ts : List Placed} {tx : Bool} {b : Marked} {i j : ℕ} {x : ItemTree}
     → SpellsFunction ts tx b i j x → BeginsResult (kind_at ts i)
 function_result (function (result_void is) n o s b a c) = subst BeginsResult (sym is) tt
-function_result (function (result_some (int is)) n o s b a c) = subst BeginsResult (sym is) tt
+function_result (function (result_some (int y is)) n o s b a c) = subst BeginsResult (sym is) tt
 function_result (function (result_some (pointer is y z)) n o s b a c) =
     subst BeginsResult (sym is) tt
 
@@ -203,10 +203,10 @@ plain_runs {ts} {i} (function {m = m} (result_void is) name opens sig brace all 
     goes ts i around none_open (Items ∷ k) (Ident ∷ OpenParameters ∷ OpenBody ∷ Items ∷ k) kind.Void
     is tt refl (omega (arith, same))
     ▸ after_result m around name opens sig brace all close (Items ∷ k) (omega (arith, same))
-plain_runs {ts} {i} (function {m = m} (result_some (int is)) name opens sig brace all close) around
-    k same =
-    goes ts i around none_open (Items ∷ k) (Ident ∷ OpenParameters ∷ OpenBody ∷ Items ∷ k) kind.Int
-    is tt refl (omega (arith, same))
+plain_runs {ts} {i} (function {m = m} (result_some (int y is)) name opens sig brace all close)
+    around k same =
+    goes ts i around none_open (Items ∷ k) (Ident ∷ OpenParameters ∷ OpenBody ∷ Items ∷ k)
+    (kind.Int y) is tt refl (omega (arith, same))
     ▸ after_result m around name opens sig brace all close (Items ∷ k) (omega (arith, same))
 plain_runs {ts} {i} (function {m = m} (result_some (pointer is called star)) name opens sig brace
     all close) around k same =

@@ -55,13 +55,13 @@ enters ts i around o s next m t enter is token may adds =
     goes ts i around o s next t is token (ap (parser_step s) (sym is) ∙ enter ∙ ap m is ∙ may) adds
 
 abbrev pub TypeBegins : Kind → Type 0
-TypeBegins kind.Int = Unit {0}
+TypeBegins (kind.Int y) = Unit {0}
 TypeBegins kind.Struct = Unit {0}
 TypeBegins _ = ⊥
 
 pub typed_begins : {ts : List Placed} {i j : ℕ} {t : TypeTree} → Typed ts i j t
     → TypeBegins (kind_at ts i)
-typed_begins (int is) = subst TypeBegins (sym is) tt
+typed_begins (int y is) = subst TypeBegins (sym is) tt
 typed_begins (pointer is n s) = subst TypeBegins (sym is) tt
 
 -- the step of a type's own tokens, before the wants below it
@@ -72,8 +72,8 @@ pub typed_runs : {ts : List Placed} {i j : ℕ} {t : TypeTree} (d : Typed ts i j
     (s below : List Want) → around ≡ weight below
     → parser_step s (kind_at ts i) ≡ typed_step below (kind_at ts i)
     → RunsPast ts i s j below around (typed_open d)
-typed_runs {ts} {i} (int is) around s below same enter =
-    enters ts i around none_open s below (typed_step below) kind.Int enter is tt refl
+typed_runs {ts} {i} (int y is) around s below same enter =
+    enters ts i around none_open s below (typed_step below) (kind.Int y) enter is tt refl
     (omega (arith, same))
 typed_runs {ts} {i} (pointer is name star) around s below same enter =
     enters ts i around none_open s (Ident ∷ Star ∷ below) (typed_step below) kind.Struct enter is tt
@@ -372,7 +372,7 @@ third_simple k _ h = absurd h
 
 first_typed : (k : List Want) (t : Kind) → TypeBegins t
     → parser_step (ForFirst ∷ k) t ≡ typed_step (Ident ∷ Initial ∷ k) t
-first_typed k kind.Int h = refl
+first_typed k (kind.Int y) h = refl
 first_typed k kind.Struct h = refl
 first_typed k _ h = absurd h
 
@@ -390,14 +390,14 @@ statement_simple loop k _ h = absurd h
 
 statement_typed : (loop : Bool) (k : List Want) (t : Kind) → TypeBegins t
     → apply_move (statement loop t) k None ≡ typed_step (Ident ∷ Initial ∷ Semicolon ∷ k) t
-statement_typed loop k kind.Int h = refl
+statement_typed loop k (kind.Int y) h = refl
 statement_typed loop k kind.Struct h = refl
 statement_typed loop k _ h = absurd h
 
 -- the tokens that begin a statement
 abbrev pub Starts : Kind → Type 0
 Starts kind.Semicolon = Unit {0}
-Starts kind.Int = Unit {0}
+Starts (kind.Int y) = Unit {0}
 Starts kind.Struct = Unit {0}
 Starts kind.OpenBrace = Unit {0}
 Starts kind.If = Unit {0}
@@ -429,7 +429,7 @@ simple_starts kind.Abort h = tt
 simple_starts _ h = absurd h
 
 type_starts : (t : Kind) → TypeBegins t → Starts t
-type_starts kind.Int h = tt
+type_starts (kind.Int y) h = tt
 type_starts kind.Struct h = tt
 type_starts _ h = absurd h
 
@@ -454,7 +454,7 @@ statement_step loop below t = apply_move (statement loop t) below None
 block_enters : (loop : Bool) (k : List Want) (t : Kind) → Starts t
     → parser_step (Block loop ∷ k) t ≡ statement_step loop (Block loop ∷ k) t
 block_enters loop k kind.Semicolon h = refl
-block_enters loop k kind.Int h = refl
+block_enters loop k (kind.Int y) h = refl
 block_enters loop k kind.Struct h = refl
 block_enters loop k kind.OpenBrace h = refl
 block_enters loop k kind.If h = refl
@@ -479,7 +479,7 @@ block_enters loop k _ h = absurd h
 body_enters : (loop : Bool) (k : List Want) (t : Kind) → Starts t → t ≢ kind.OpenBrace
     → parser_step (Body loop ∷ k) t ≡ statement_step loop (Bare ∷ k) t
 body_enters loop k kind.Semicolon h o = refl
-body_enters loop k kind.Int h o = refl
+body_enters loop k (kind.Int y) h o = refl
 body_enters loop k kind.Struct h o = refl
 body_enters loop k kind.OpenBrace h o = absurd (o refl)
 body_enters loop k kind.If h o = refl

@@ -6,7 +6,8 @@ use Rattle.std.specs.Prelude.{ℕ, ◌+◌, List, [], ◌∷◌, ◌++◌}
 use Rattle.c_lexer.specs.declared.token.Placed.{Placed}
 use Rattle.c_tree.specs.ExprTree.{ExprTree, Arguments}
 use Rattle.c_tree.specs.Spelling.{Expression, unconditional, conditional, Level, level_zero}
-use Rattle.c_tree.specs.Spelling.{level_suc, Chain, chain_end, chain_more, Unary, signed, unsigned}
+use Rattle.c_tree.specs.Spelling.{level_suc, Chain, chain_end, chain_more, Unary, signed, cast}
+use Rattle.c_tree.specs.Spelling.{unsigned}
 use Rattle.c_tree.specs.Spelling.{Postfix, postfix, Parts, parts_end, field}
 use Rattle.c_tree.specs.Spelling.{element, Primary, number, null, variable, call, root, new}
 use Rattle.c_tree.specs.Spelling.{brackets, SpellsArguments, no_arguments, arguments, MoreArguments}
@@ -32,6 +33,7 @@ postfix_operators (postfix first parts) = primary_operators first + parts_operat
 
 abbrev pub unary_operators : {ts : List Placed} {i j : ℕ} {e : ExprTree} → Unary ts i j e → ℕ
 unary_operators (signed o is operand) = 1 + unary_operators operand
+unary_operators (cast n is word close operand) = 1 + unary_operators operand
 unary_operators (unsigned operand) = postfix_operators operand
 
 abbrev mutual
@@ -74,6 +76,9 @@ abbrev mutual
   pub unary_open : {ts : List Placed} {i j : ℕ} {e : ExprTree}
       → Unary ts i j e → List OpenParts
   unary_open (signed o is operand) = so_far 1 (none_open ∷ unary_open operand)
+  -- a type's word is the operator of a cast
+  unary_open (cast n is word close operand) = one_open
+      ∷ so_far 1 (one_open ∷ none_open ∷ unary_open operand)
   unary_open (unsigned operand) = postfix_open operand
 
   pub postfix_open : {ts : List Placed} {i j : ℕ} {e : ExprTree}

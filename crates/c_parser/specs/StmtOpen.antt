@@ -18,7 +18,7 @@ use Rattle.c_parser.specs.ExprOpen.{expression_open, postfix_open, arguments_ope
 
 abbrev pub typed_open : {ts : List Placed} {i j : ℕ} {t : TypeTree}
     → Typed ts i j t → List OpenParts
-typed_open (int is) = none_open ∷ []
+typed_open (int n is) = none_open ∷ []
 typed_open (pointer is name star) = none_open ∷ none_open ∷ none_open ∷ []
 
 abbrev pub declares_open : {ts : List Placed} {i j : ℕ} {d : DeclarationTree}

@@ -10,10 +10,10 @@ ghost use Rattle.c_tree.specs.inside.ExprTree.{followed_by};
 ghost use Rattle.c_tree.specs.Spelling.{Expression, Level, Unary, Postfix, Parts, Primary};
 ghost use Rattle.c_tree.specs.Spelling.{SpellsArguments};
 ghost use Rattle.c_parser.specs.inside.Fixes.{Fixes, IsFollowed, Over, Uncalled};
-ghost use Rattle.c_parser.specs.inside.Pieces.{FromCondition};
+ghost use Rattle.c_parser.specs.inside.Pieces.{FromCondition, FromWord, cast_of};
 
 use c_lexer::TokenList;
-use c_tree::expr::{Argument, BinaryOp, Expr, Name, UnaryOp};
+use c_tree::expr::{Argument, BinaryOp, Expr, IntType, Name, UnaryOp};
 use c_tree::{Kind, kind_at, name_at, place_after, value_at};
 use std::alloc::{AllocError, Global};
 
@@ -57,6 +57,21 @@ fn sign_at(tokens: &TokenList, at: u64) -> Option<UnaryOp>
         Kind::Operator(BinaryOp::Sub) => Some(UnaryOp::Negate),
         Kind::Not => Some(UnaryOp::Not),
         Kind::Tilde => Some(UnaryOp::Complement),
+        _ => None,
+    }
+}
+
+/// The type in the bracket that opens at a place, if a type's word stands right after it.
+fn cast_at(tokens: &TokenList, at: u64) -> Option<IntType>
+    ensures int { result ≡ cast_of (kinds.kind_at tokens.now.tokens at)
+        (kinds.kind_at tokens.now.tokens (at + 1)) }
+    ensures inside { IsSome result → at + 1 < length tokens.now.tokens }
+{
+    if kind_at(tokens, at) != Kind::OpenRound {
+        return None;
+    }
+    match kind_at(tokens, place_after(tokens, at)) {
+        Kind::Int(int) => Some(int),
         _ => None,
     }
 }
@@ -210,7 +225,26 @@ fn unary(alloc: Global, tokens: &TokenList, at: u64) -> Result<(Expr, u64), Allo
         let (operand, next) = unary(alloc, tokens, place_after(tokens, at))?;
         return Ok((make_unary(alloc, op, at, operand)?, next));
     }
-    postfix(alloc, tokens, at)
+    match cast_at(tokens, at) {
+        None => postfix(alloc, tokens, at),
+        Some(int) => cast(alloc, tokens, place_after(tokens, at), int),
+    }
+}
+
+/// A cast, from its type's word on.
+#[cycle(expressions)]
+#[tactic(auto, using(crate::proofs::FixesExpr::casts))]
+fn cast(alloc: Global, tokens: &TokenList, at: u64, int: IntType) -> Result<(Expr, u64), AllocError>
+    requires word { kinds.kind_at tokens.now.tokens at ≡ Kind.Int int }
+    requires inside { at < length tokens.now.tokens }
+    ensures stays { IfOk result (λ r. at ≤ r.1) }
+    ensures fixes { IfOk result (λ r.
+        Fixes (IsFollowed tokens.now.tokens (Over 0) (FromWord tokens.now.tokens at int)) r.1
+        (expr_of r.0)) }
+{
+    let close = place_after(tokens, at);
+    let (operand, next) = unary(alloc, tokens, place_after(tokens, close))?;
+    Ok((make_unary(alloc, UnaryOp::Cast(int), at, operand)?, next))
 }
 
 /// A primary with the fields and elements taken from it.

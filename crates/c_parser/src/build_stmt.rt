@@ -14,14 +14,24 @@ ghost use Rattle.c_parser.specs.inside.Fixes.{Fixes, IsFollowed, Over, IsOfKind,
 ghost use Rattle.c_parser.specs.inside.Pieces as pieces;
 ghost use Rattle.c_parser.specs.inside.Pieces.{ActsOrCalls, for_of, SpellsFor, Stated, StatedAll};
 ghost use Rattle.c_parser.specs.inside.Pieces.{SpellsChoice, SpellsWhile, SpellsDo, SpellsCounted};
-ghost use Rattle.c_parser.specs.inside.Pieces.{SpellsPlain};
+ghost use Rattle.c_parser.specs.inside.Pieces.{SpellsPlain, int_of};
 
 use crate::build_expr::{expression, postfix};
 use c_lexer::TokenList;
-use c_tree::expr::{Expr, Name};
+use c_tree::expr::{Expr, IntType, Name};
 use c_tree::stmt::{AssignOp, Declaration, First, Initial, Simple, StepOp, Stmt, TypeName};
 use c_tree::{Kind, kind_at, name_at, place_after};
 use std::alloc::{AllocError, Global};
+
+/// The type of ints at a place; `int64_t` if there is none.
+fn int_at(tokens: &TokenList, at: u64) -> IntType
+    ensures { result ≡ int_of (kinds.kind_at tokens.now.tokens at) }
+{
+    match kind_at(tokens, at) {
+        Kind::Int(int) => int,
+        _ => IntType::Signed,
+    }
+}
 
 /// A type, and the place after it.
 #[tactic(auto, using(crate::proofs::FixesStmt::types))]
@@ -38,7 +48,7 @@ pub fn type_name(alloc: Global, tokens: &TokenList, at: u64) -> Result<(TypeName
             place_after(tokens, place_after(tokens, next)),
         ));
     }
-    Ok((TypeName::Int, next))
+    Ok((TypeName::Int(int_at(tokens, at)), next))
 }
 
 /// A declaration without its semicolon.
@@ -253,7 +263,7 @@ fn first_part(
 {
     match kind_at(tokens, at) {
         Kind::Semicolon => Ok((None, at)),
-        Kind::Int | Kind::Struct => {
+        Kind::Int(_) | Kind::Struct => {
             let (one, end) = declaration(alloc, tokens, at)?;
             Ok((Some(First::Declare(one)), end))
         }
@@ -335,7 +345,7 @@ fn plain(alloc: Global, tokens: &TokenList, at: u64) -> Result<(Stmt, u64), Allo
     let next = place_after(tokens, at);
     match kind_at(tokens, at) {
         Kind::Semicolon => Ok((Stmt::Empty, next)),
-        Kind::Int | Kind::Struct => {
+        Kind::Int(_) | Kind::Struct => {
             let (one, end) = declaration(alloc, tokens, at)?;
             Ok((Stmt::Declare(one), place_after(tokens, end)))
         }

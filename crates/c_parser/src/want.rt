@@ -1,7 +1,7 @@
 //! What must still come, as a stack, and the effect of a token on it.
 
 ghost use Rattle.std.specs.Prelude.{ℕ, List, [], ◌∷◌, ◌++◌, ◌≡◌, ◌≤◌, ◌<◌, ◌+◌, OnOk, IfOk};
-ghost use Rattle.std.specs.Prelude.{reverse, nat_lt};
+ghost use Rattle.std.specs.Prelude.{reverse, nat_lt, MatchOption};
 ghost use Rattle.nvm_base.specs.Stacks.{Popped};
 ghost use Rattle.c_parser.specs.inside.Wants as wants;
 ghost use Rattle.c_parser.specs.inside.Wants.{moves_to, done};
@@ -26,6 +26,9 @@ pub enum Want {
     Named(u64),
     /// The `.` after `root`.
     Dot(u64),
+    /// The rest of an open bracket and what follows it: a type's word, the `)` and an operand, or
+    /// an expression and the `)`.
+    Opened(u64),
     /// The `:` of an open `?`, and the right side.
     Colon(u64),
     /// The first argument, or the `)`.
@@ -99,18 +102,35 @@ pub enum Want {
 /// The greatest weight that a token may have.
 const LIMIT: u64 = 64;
 
-/// The weight that a want adds.
-fn own(want: Want) -> u64
-    ensures { result ≡ stacks.own_weight want }
+/// The operators that a want counts.
+fn operators(want: Want) -> u64
+    ensures { result ≡ stacks.operators want }
 {
     match want {
         Want::Operand(n) | Want::Rest(n) | Want::Named(n) | Want::Dot(n) | Want::Target(n) => n,
-        Want::Colon(n) => n,
-        Want::Round | Want::Square | Want::FirstArgument | Want::MoreArguments => 1,
-        Want::Block(_) | Want::Fields | Want::Parameters | Want::MoreParameters => 1,
-        Want::Bare => 1,
+        Want::Colon(n) | Want::Opened(n) => n,
         _ => 0,
     }
+}
+
+/// 1 for a want that ends an open bracket or body, else 0.
+fn ends(want: Want) -> u64
+    ensures { result ≡ stacks.brackets want + stacks.bodies want }
+{
+    match want {
+        Want::Round | Want::Square | Want::FirstArgument | Want::MoreArguments => 1,
+        Want::Block(_) | Want::Fields | Want::Parameters | Want::MoreParameters => 1,
+        Want::Bare | Want::Opened(_) => 1,
+        _ => 0,
+    }
+}
+
+/// What a want leaves of a weight; `None` if it weighs more.
+fn left_under(left: u64, want: Want) -> Option<u64>
+    ensures { MatchOption result (left < stacks.own_weight want)
+        (λ less. left ≡ less + stacks.own_weight want) }
+{
+    left.checked_sub(operators(want))?.checked_sub(ends(want))
 }
 
 /// The effect of a token on the want on top.
@@ -203,12 +223,23 @@ impl Wants {
             Kind::Name => self.take(&[Want::Named(n)]),
             Kind::Root => self.take(&[Want::Dot(n)]),
             Kind::PmNew => self.take(&[Want::NewOpen, Want::Rest(n)]),
-            Kind::OpenRound => self.take(&[Want::Operand(0), Want::Round, Want::Rest(n)]),
+            Kind::OpenRound => self.take(&[Want::Opened(n)]),
             Kind::Operator(BinaryOp::Sub) | Kind::Not | Kind::Tilde => self.take(&[Want::Operand(
                 n + 1,
             )]),
             _ => Ok(Taken::Refused),
         }
+    }
+
+    fn opened(&mut self, n: u64, kind: Kind) -> Result<Taken, AllocError>
+        requires { n + 1 ≤ 64 }
+        ensures { IfOk result (λ t. done t self.new ≡ moves_to (wants.opened n kind) self.old) }
+    {
+        if let Kind::Int(_) = kind {
+            return self.take(&[Want::Round, Want::Operand(n + 1)]);
+        }
+        self.put(&[Want::Round, Want::Rest(n)])?;
+        self.operand(0, kind)
     }
 
     fn rest(&mut self, n: u64, kind: Kind) -> Result<Taken, AllocError>
@@ -330,7 +361,7 @@ impl Wants {
         ensures { IfOk result (λ t. done t self.new ≡ moves_to (wants.type_begins kind) self.old) }
     {
         match kind {
-            Kind::Int => self.take(&[]),
+            Kind::Int(_) => self.take(&[]),
             Kind::Struct => self.take(&[Want::Ident, Want::Star]),
             _ => Ok(Taken::Refused),
         }
@@ -368,7 +399,7 @@ impl Wants {
     {
         match kind {
             Kind::Semicolon => self.take(&[]),
-            Kind::Int => self.take(&[Want::Ident, Want::Initial, Want::Semicolon]),
+            Kind::Int(_) => self.take(&[Want::Ident, Want::Initial, Want::Semicolon]),
             Kind::Struct => self.take(&[
                 Want::Ident,
                 Want::Star,
@@ -473,7 +504,7 @@ impl Wants {
         ensures { IfOk result (λ t. done t self.new ≡ moves_to (wants.for_first kind) self.old) }
     {
         match kind {
-            Kind::Int => self.take(&[Want::Ident, Want::Initial]),
+            Kind::Int(_) => self.take(&[Want::Ident, Want::Initial]),
             Kind::Struct => self.take(&[Want::Ident, Want::Star, Want::Ident, Want::Initial]),
             _ => self.for_third(kind),
         }
@@ -581,7 +612,7 @@ impl Wants {
                 Want::OpenParameters,
                 Want::OpenBody,
             ]),
-            Kind::Int | Kind::Void => self.take(&[
+            Kind::Int(_) | Kind::Void => self.take(&[
                 Want::Ident,
                 Want::OpenParameters,
                 Want::OpenBody,
@@ -621,6 +652,7 @@ impl Wants {
             Want::Rest(n) => self.rest(n, kind),
             Want::Named(n) => self.named(n, kind),
             Want::Dot(n) => self.dot(n, kind),
+            Want::Opened(n) => self.opened(n, kind),
             Want::Colon(n) => self.colon(n, kind),
             Want::FirstArgument => self.first_argument(kind),
             Want::MoreArguments => self.more_arguments(kind),
@@ -682,11 +714,10 @@ fn weighs_over(all: &[Want]) -> bool
 {
     let mut left = LIMIT;
     for want in all {
-        let own = own(*want);
-        if own > left {
+        let Some(less) = left_under(left, *want) else {
             return true;
-        }
-        left -= own;
+        };
+        left = less;
     }
     false
 }

@@ -10,6 +10,7 @@ use Rattle.c_lexer.specs.declared.token.Token.{Token}
 use Rattle.c_lexer.specs.declared.token.Token.TheVariants as token
 use Rattle.c_lexer.specs.declared.token.Placed.{Placed}
 use Rattle.c_tree.specs.declared.expr.BinaryOp.TheVariants as op
+use Rattle.c_tree.specs.declared.expr.IntType.TheVariants as int
 use Rattle.c_tree.specs.declared.stmt.AssignOp.TheVariants as assign
 use Rattle.c_tree.specs.declared.stmt.UpdateOp.TheVariants as update
 use Rattle.c_tree.specs.declared.stmt.StepOp.TheVariants as turn
@@ -65,7 +66,8 @@ mark_kind mark.OpenSquare = kind.OpenSquare
 mark_kind mark.CloseSquare = kind.CloseSquare
 
 abbrev pub word_kind : Word → Kind
-word_kind word.Int64 = kind.Int
+word_kind word.Int64 = kind.Int int.Signed
+word_kind word.Uint64 = kind.Int int.Unsigned
 word_kind word.Void = kind.Void
 word_kind word.Struct = kind.Struct
 -- definitions of constants are taken out before the grammar looks

@@ -5,7 +5,9 @@
 use Rattle.std.specs.Prelude.{ℕ, zero, suc, ◌+◌, ◌≡◌, List, Some}
 use Rattle.c_lexer.specs.declared.token.Placed.{Placed}
 use Rattle.c_tree.specs.declared.expr.BinaryOp.{BinaryOp}
+use Rattle.c_tree.specs.declared.expr.IntType.{IntType}
 use Rattle.c_tree.specs.declared.expr.UnaryOp.{UnaryOp}
+use Rattle.c_tree.specs.declared.expr.UnaryOp.TheVariants as unary
 use Rattle.c_tree.specs.declared.kind.Kind.TheVariants as kind
 use Rattle.c_tree.specs.Kinds.{kind_at, ident_at, value_at}
 use Rattle.c_tree.specs.Operators.{op_at, sign_of}
@@ -37,6 +39,10 @@ mutual
   pub data Unary (ts : List Placed) : ℕ → ℕ → ExprTree → Type 0 where
     signed : {i j : ℕ} {e : ExprTree} (o : UnaryOp)
         → sign_of (kind_at ts i) ≡ Some o → Unary ts (i + 1) j e → Unary ts i j (tree.Unary o i e)
+    cast : {i j : ℕ} {e : ExprTree} (n : IntType)
+        → kind_at ts i ≡ kind.OpenRound → kind_at ts (i + 1) ≡ kind.Int n
+        → kind_at ts (i + 1 + 1) ≡ kind.CloseRound → Unary ts (i + 1 + 1 + 1) j e
+        → Unary ts i j (tree.Unary (unary.Cast n) (i + 1) e)
     unsigned : {i j : ℕ} {e : ExprTree} → Postfix ts i j e → Unary ts i j e
 
   pub data Postfix (ts : List Placed) : ℕ → ℕ → ExprTree → Type 0 where

@@ -1,6 +1,7 @@
 -- Which tokens, from one place up to another, spell which statement.
 use Rattle.std.specs.Prelude.{ℕ, ◌+◌, ◌≡◌, ◌≢◌, List, Option, Some, None, Bool, true}
 use Rattle.c_lexer.specs.declared.token.Placed.{Placed}
+use Rattle.c_tree.specs.declared.expr.IntType.{IntType}
 use Rattle.c_tree.specs.declared.expr.BinaryOp.TheVariants as op
 use Rattle.c_tree.specs.declared.stmt.AssignOp.{AssignOp}
 use Rattle.c_tree.specs.declared.stmt.AssignOp.TheVariants as assign
@@ -15,7 +16,7 @@ use Rattle.c_tree.specs.StmtTree as tree
 use Rattle.c_tree.specs.Spelling.{Expression, Postfix, SpellsArguments}
 
 pub data Typed (ts : List Placed) : ℕ → ℕ → TypeTree → Type 0 where
-  int : {i : ℕ} → kind_at ts i ≡ kind.Int → Typed ts i (i + 1) tree.Int
+  int : {i : ℕ} (n : IntType) → kind_at ts i ≡ kind.Int n → Typed ts i (i + 1) (tree.Int n)
   pointer : {i : ℕ}
       → kind_at ts i ≡ kind.Struct → kind_at ts (i + 1) ≡ kind.Name
       → kind_at ts (i + 1 + 1) ≡ kind.Operator op.Mul

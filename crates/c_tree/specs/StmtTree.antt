@@ -1,5 +1,6 @@
 -- A statement as a tree without pointers, in the same way as an expression.
 use Rattle.std.specs.Prelude.{ℕ, List, [], ◌∷◌, Option, option_map}
+use Rattle.c_tree.specs.declared.expr.IntType.{IntType}
 use Rattle.c_tree.specs.declared.stmt.TypeName.{TypeName}
 use Rattle.c_tree.specs.declared.stmt.TypeName.TheVariants as written
 use Rattle.c_tree.specs.declared.stmt.Initial.{Initial}
@@ -16,7 +17,7 @@ use Rattle.c_tree.specs.declared.stmt.Stmt.TheVariants as node
 use Rattle.c_tree.specs.ExprTree.{ExprTree, Arguments, Ident, ident_of, expr_of, arguments_in}
 
 pub data TypeTree : Type 0 where
-  Int : TypeTree
+  Int : IntType → TypeTree
   Pointer : Ident → TypeTree
 
 -- the value after a `=`, and the place of the `=`
@@ -60,7 +61,7 @@ mutual
     Then : StmtTree → Statements → Statements
 
 abbrev pub type_tree : TypeName → TypeTree
-type_tree written.Int = Int
+type_tree (written.Int n) = Int n
 type_tree (written.Pointer n) = Pointer (ident_of n)
 
 abbrev pub initial_of : Initial → InitialTree

@@ -10,6 +10,15 @@ pub struct Name {
     pub place: u64,
 }
 
+/// A type of ints, which have 64 bits.
+#[derive(Clone, Copy, PartialEq, Eq)]
+pub enum IntType {
+    /// `int64_t`
+    Signed,
+    /// `uint64_t`
+    Unsigned,
+}
+
 /// A unary operator.
 #[derive(Clone, Copy)]
 pub enum UnaryOp {
@@ -19,6 +28,8 @@ pub enum UnaryOp {
     Not,
     /// `~`
     Complement,
+    /// `(int64_t)` and `(uint64_t)`
+    Cast(IntType),
 }
 
 /// A binary operator.
@@ -54,10 +65,12 @@ pub struct Argument {
     pub value: Expr,
 }
 
-/// An expression. The `place` of a node is that of its operator, its `?`, its `[` or its word.
+/// An expression. The `place` of a node is that of its operator, its `?`, its `[` or its word; of
+/// a cast it is that of its type's word.
 #[derive(Drop)]
 #[cycle(expression)]
 pub enum Expr {
+    /// A number, as the word with its bits.
     Number(i64),
     /// `NULL`
     Null,

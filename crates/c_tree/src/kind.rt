@@ -4,7 +4,7 @@ ghost use Rattle.std.specs.Prelude.{◌≡◌, ◌≢◌, ◌<◌, ◌≤◌, �
 ghost use Rattle.c_tree.specs.Kinds as kinds;
 ghost use Rattle.c_tree.specs.ExprTree.{ident_of};
 
-use crate::expr::{BinaryOp, Name};
+use crate::expr::{BinaryOp, IntType, Name};
 use crate::stmt::{AssignOp, StepOp, UpdateOp};
 use c_lexer::{Mark, Token, TokenList, Word};
 use nvm_base::Text;
@@ -36,7 +36,8 @@ pub enum Kind {
     CloseSquare,
     Assign(AssignOp),
     Step(StepOp),
-    Int,
+    /// `int64_t` or `uint64_t`
+    Int(IntType),
     Void,
     Struct,
     Persistent,
@@ -117,7 +118,8 @@ fn word_kind(word: Word) -> Kind
     ensures { result ≡ kinds.word_kind word }
 {
     match word {
-        Word::Int64 => Kind::Int,
+        Word::Int64 => Kind::Int(IntType::Signed),
+        Word::Uint64 => Kind::Int(IntType::Unsigned),
         Word::Void => Kind::Void,
         Word::Struct => Kind::Struct,
         Word::Enum => Kind::Other,

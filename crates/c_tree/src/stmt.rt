@@ -3,13 +3,13 @@
 ghost use Rattle.std.specs.Prelude.{◌≡◌};
 ghost use Rattle.c_tree.specs.Operators.{update_binary};
 
-use crate::expr::{Argument, BinaryOp, Expr, Name};
+use crate::expr::{Argument, BinaryOp, Expr, IntType, Name};
 
 /// A type as it is written in the text.
 #[derive(Drop)]
 pub enum TypeName {
-    /// `int64_t`
-    Int,
+    /// `int64_t` or `uint64_t`
+    Int(IntType),
     /// `struct NAME *`
     Pointer(Name),
 }

@@ -2,7 +2,7 @@
 //! `>`.
 
 use c_tree::Ast;
-use c_tree::expr::{Argument, BinaryOp, Expr, UnaryOp};
+use c_tree::expr::{Argument, BinaryOp, Expr, IntType, UnaryOp};
 use c_tree::item::Item;
 use c_tree::stmt::{AssignOp, Declaration, First, Simple, StepOp, Stmt, TypeName, UpdateOp};
 use std::alloc::{AllocError, Global};
@@ -35,6 +35,8 @@ fn unary_sign(op: UnaryOp) -> &'static str {
         UnaryOp::Negate => "-",
         UnaryOp::Not => "!",
         UnaryOp::Complement => "~",
+        UnaryOp::Cast(IntType::Signed) => "(int)",
+        UnaryOp::Cast(IntType::Unsigned) => "(unsigned)",
     }
 }
 
@@ -181,7 +183,8 @@ fn show_simple(alloc: Global, out: &mut String, simple: &Simple) -> Result<(), A
 
 fn show_declaration(alloc: Global, out: &mut String, one: &Declaration) -> Result<(), AllocError> {
     match &one.ty {
-        TypeName::Int => out.push_str("int ")?,
+        TypeName::Int(IntType::Signed) => out.push_str("int ")?,
+        TypeName::Int(IntType::Unsigned) => out.push_str("unsigned ")?,
         TypeName::Pointer(name) => {
             out.push_str(name.text.as_str())?;
             out.push_str("*")?;

@@ -49,6 +49,6 @@ ClosesSimple _ = ⊥
 -- the tokens that begin a function's result
 abbrev pub BeginsResult : Kind → Type 0
 BeginsResult kind.Void = Unit {0}
-BeginsResult kind.Int = Unit {0}
+BeginsResult (kind.Int n) = Unit {0}
 BeginsResult kind.Struct = Unit {0}
 BeginsResult _ = ⊥

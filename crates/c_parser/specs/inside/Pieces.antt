@@ -1,6 +1,7 @@
 -- Pieces of statements and items that the builder reads with a function of their own. Whether a
 -- statement is inside a loop was judged before, so the builder doesn't look at it.
-use Rattle.std.specs.Prelude.{ℕ, ◌+◌, ◌≡◌, ◌≢◌, List, Option, option_map, Bool, true, false}
+use Rattle.std.specs.Prelude.{ℕ, ◌+◌, ◌≡◌, ◌≢◌, List, Option, Some, None, option_map, Bool, true}
+use Rattle.std.specs.Prelude.{false}
 use Rattle.c_lexer.specs.declared.token.Placed.{Placed}
 use Rattle.c_parser.specs.declared.build_stmt.ForParts.{ForParts}
 use Rattle.c_tree.specs.declared.kind.Kind.{Kind}
@@ -13,7 +14,10 @@ use Rattle.c_tree.specs.StmtTree.{Statements, tree_of_first, simple_of}
 use Rattle.c_tree.specs.StmtTree as tree
 use Rattle.c_tree.specs.ItemTree.{FieldTree, ParameterTree, ItemTree}
 use Rattle.c_tree.specs.ItemTree as item
-use Rattle.c_tree.specs.Spelling.{Expression}
+use Rattle.c_tree.specs.Spelling.{Expression, Unary}
+use Rattle.c_tree.specs.declared.expr.IntType.{IntType}
+use Rattle.c_tree.specs.declared.expr.IntType.TheVariants as int
+use Rattle.c_tree.specs.declared.expr.UnaryOp.TheVariants as unary
 use Rattle.c_tree.specs.StmtSpelling.{Typed, Declares, Bracketed, Acts, Simply, FirstPart}
 use Rattle.c_tree.specs.StmtSpelling.{ValuePart, ThirdPart, Spells, SpellsAll}
 use Rattle.c_tree.specs.ItemSpelling.{SpellsFields, SpellsParameters}
@@ -23,6 +27,22 @@ pub data FromCondition (ts : List Placed) (i : ℕ) (c : ExprTree) : ℕ → Exp
   sides : {n j : ℕ} {a b : ExprTree}
       → kind_at ts i ≡ kind.Question → Expression ts (i + 1) n a → kind_at ts n ≡ kind.Colon
       → Expression ts (n + 1) j b → FromCondition ts i c j (expr.Conditional c i a b)
+
+-- the type in a bracket, of the tokens at it and after it, if a type's word stands right after it
+abbrev pub cast_of : Kind → Kind → Option IntType
+cast_of kind.OpenRound (kind.Int n) = Some n
+cast_of _ _ = None
+
+-- the type of ints that a token is; `int64_t` if it is none
+abbrev pub int_of : Kind → IntType
+int_of (kind.Int n) = n
+int_of _ = int.Signed
+
+-- a cast, from its type's word on
+pub data FromWord (ts : List Placed) (i : ℕ) (n : IntType) : ℕ → ExprTree → Type 0 where
+  cast_from : {j : ℕ} {e : ExprTree}
+      → kind_at ts i ≡ kind.Int n → kind_at ts (i + 1) ≡ kind.CloseRound
+      → Unary ts (i + 1 + 1) j e → FromWord ts i n j (expr.Unary (unary.Cast n) i e)
 
 -- an action on a target, or a call that stands alone
 pub data ActsOrCalls (ts : List Placed) : ℕ → ℕ → ExprTree → SimpleTree → Type 0 where

@@ -4,7 +4,7 @@
 use Rattle.std.specs.Prelude.{ℕ, ◌+◌, List, [], ◌∷◌, Option, Some, None}
 use Rattle.c_lexer.specs.declared.token.Placed.{Placed}
 use Rattle.c_parser.specs.declared.want.Want.{Want}
-use Rattle.c_parser.specs.declared.want.Want.TheVariants.{Operand, Rest, Named, Dot, Colon}
+use Rattle.c_parser.specs.declared.want.Want.TheVariants.{Operand, Rest, Named, Dot, Colon, Opened}
 use Rattle.c_parser.specs.declared.want.Want.TheVariants.{FirstArgument}
 use Rattle.c_parser.specs.declared.want.Want.TheVariants.{MoreArguments, Round, Square, Target}
 use Rattle.c_parser.specs.declared.want.Want.TheVariants.{Bare, Block, Fields, Parameters}
@@ -15,6 +15,7 @@ use Rattle.c_parser.specs.inside.Wants.{parser_step}
 -- 1 for a want that ends with the closing bracket of an open one
 abbrev pub brackets : Want → ℕ
 brackets Round = 1
+brackets (Opened n) = 1
 brackets Square = 1
 brackets FirstArgument = 1
 brackets MoreArguments = 1
@@ -36,6 +37,7 @@ operators (Rest n) = n
 operators (Named n) = n
 operators (Dot n) = n
 operators (Colon n) = n
+operators (Opened n) = n
 operators (Target n) = n
 operators _ = 0
 

@@ -9,7 +9,7 @@ use Rattle.c_tree.specs.declared.stmt.AssignOp.TheVariants as assign
 use Rattle.c_tree.specs.declared.kind.Kind.{Kind}
 use Rattle.c_tree.specs.declared.kind.Kind.TheVariants as kind
 use Rattle.c_parser.specs.declared.want.Want.{Want}
-use Rattle.c_parser.specs.declared.want.Want.TheVariants.{Operand, Rest, Named, Dot, Colon}
+use Rattle.c_parser.specs.declared.want.Want.TheVariants.{Operand, Rest, Named, Dot, Colon, Opened}
 use Rattle.c_parser.specs.declared.want.Want.TheVariants.{FirstArgument}
 use Rattle.c_parser.specs.declared.want.Want.TheVariants.{MoreArguments, NewOpen, Ident, Digits}
 use Rattle.c_parser.specs.declared.want.Want.TheVariants.{Semicolon, StructWord, Star, RootWord}
@@ -47,11 +47,17 @@ operand n kind.Null = Take (Rest n ∷ [])
 operand n kind.Name = Take (Named n ∷ [])
 operand n kind.Root = Take (Dot n ∷ [])
 operand n kind.PmNew = Take (NewOpen ∷ Rest n ∷ [])
-operand n kind.OpenRound = Take (Operand 0 ∷ Round ∷ Rest n ∷ [])
+operand n kind.OpenRound = Take (Opened n ∷ [])
 operand n (kind.Operator op.Sub) = Take (Operand (n + 1) ∷ [])
 operand n kind.Not = Take (Operand (n + 1) ∷ [])
 operand n kind.Tilde = Take (Operand (n + 1) ∷ [])
 operand n _ = Refuse
+
+-- after an open bracket: a type's word, the closing bracket and an operand, or an expression and
+-- the closing bracket
+abbrev pub opened : ℕ → Kind → WantMove
+opened n (kind.Int m) = Take (Round ∷ Operand (n + 1) ∷ [])
+opened n k = move_then (operand 0 k) (Round ∷ Rest n ∷ [])
 
 abbrev pub rest : ℕ → Kind → WantMove
 rest n (kind.Operator o) = Take (Operand (n + 1) ∷ [])
@@ -153,7 +159,7 @@ initial (kind.Assign assign.Set) = Take (Operand 0 ∷ [])
 initial _ = Yield
 
 abbrev pub type_begins : Kind → WantMove
-type_begins kind.Int = Take []
+type_begins (kind.Int n) = Take []
 type_begins kind.Struct = Take (Ident ∷ Star ∷ [])
 type_begins _ = Refuse
 
@@ -175,7 +181,7 @@ leaves false = Refuse
 
 abbrev pub statement : Bool → Kind → WantMove
 statement loop kind.Semicolon = Take []
-statement loop kind.Int = Take (Ident ∷ Initial ∷ Semicolon ∷ [])
+statement loop (kind.Int n) = Take (Ident ∷ Initial ∷ Semicolon ∷ [])
 statement loop kind.Struct = Take (Ident ∷ Star ∷ Ident ∷ Initial ∷ Semicolon ∷ [])
 statement loop kind.OpenBrace = Take (Block loop ∷ [])
 statement loop kind.If = Take (OpenExpression ∷ Body loop ∷ Else loop ∷ [])
@@ -204,7 +210,7 @@ open_for kind.OpenRound = Take (ForFirst ∷ Semicolon ∷ Value ∷ Semicolon �
 open_for _ = Refuse
 
 abbrev pub for_first : Kind → WantMove
-for_first kind.Int = Take (Ident ∷ Initial ∷ [])
+for_first (kind.Int n) = Take (Ident ∷ Initial ∷ [])
 for_first kind.Struct = Take (Ident ∷ Star ∷ Ident ∷ Initial ∷ [])
 for_first k = perhaps (simple_begins k)
 
@@ -255,7 +261,7 @@ abbrev pub item : Kind → WantMove
 item kind.Struct = Take (Ident ∷ StructOrFunction ∷ [])
 item kind.Persistent = Take (StructWord ∷ Ident ∷ RootWord ∷ Semicolon ∷ [])
 item kind.Tx = Take (TxResult ∷ Ident ∷ OpenParameters ∷ OpenBody ∷ [])
-item kind.Int = Take (Ident ∷ OpenParameters ∷ OpenBody ∷ [])
+item (kind.Int n) = Take (Ident ∷ OpenParameters ∷ OpenBody ∷ [])
 item kind.Void = Take (Ident ∷ OpenParameters ∷ OpenBody ∷ [])
 item _ = Refuse
 
@@ -268,6 +274,7 @@ move (Operand n) k = operand n k
 move (Rest n) k = rest n k
 move (Named n) k = named n k
 move (Dot n) k = dot n k
+move (Opened n) k = opened n k
 move (Colon n) k = colon n k
 move FirstArgument k = first_argument k
 move MoreArguments k = more_arguments k

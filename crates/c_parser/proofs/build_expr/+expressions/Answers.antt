@@ -1,8 +1,8 @@
-use Rattle.std.proofs.Common.{◌≢◌, ◌∙◌, refl, ap, arith, rules}
+use Rattle.std.proofs.Common.{◌≡◌, ◌≢◌, ◌<◌, ◌+◌, ◌∙◌, length, refl, ap, arith, rules}
 use Rattle.c_tree.specs.declared.kind.Kind.TheVariants as kind
 use Rattle.c_tree.specs.ExprTree.{arguments_in}
 use Rattle.c_tree.specs.Kinds.{kind_at}
-use Rattle.c_parser.proofs.FixesExpr.{led_expr, chain_begins, chain_steps, parts_field}
+use Rattle.c_parser.proofs.FixesExpr.{led_expr, chain_begins, chain_steps, cast_word, parts_field}
 use Rattle.c_parser.proofs.FixesExpr.{parts_element, parts_none, primary_null, primary_variable}
 use Rattle.c_parser.proofs.FixesExpr.{primary_root, primary_new, primary_brackets, arguments_begin}
 use Rattle.c_parser.proofs.build_expr.+expressions.Goals as goal
@@ -89,3 +89,15 @@ primary-returns-in_default t c = record {
       c.in_default.not-Number c.in_default.not-Name c.in_default.not-Root c.in_default.not-PmNew
       c.in_default.not-OpenRound;
 }
+
+pub unary-cast-requires : goal.unary-cast-requires
+unary-cast-requires t c =
+    let inside : c.args.at + 1 < length c.args.tokens.now.tokens = search rules in
+    let here : c.place_after-in-Some-cast_at.result ≡ c.args.at + 1 =
+    c.place_after-in-Some-cast_at.ensures.moves (omega (arith, inside)) in (
+      search (rules, inside, here),
+      (
+        cast_word _ _ _ _ c.in-Some-cast_at.ensures.int c.place_after-in-Some-cast_at.ensures.moves,
+        omega (arith, inside, here),
+      ),
+    )

@@ -19,6 +19,9 @@ decreases-binary l = 16 * (length l.tokens.now.tokens + 2 - l.at) + l.level + 3
 abbrev pub decreases-unary : goal.decreases-unary
 decreases-unary l = 16 * (length l.tokens.now.tokens + 2 - l.at) + 2
 
+abbrev pub decreases-cast : goal.decreases-cast
+decreases-cast l = 16 * (length l.tokens.now.tokens + 2 - l.at)
+
 abbrev pub decreases-postfix : goal.decreases-postfix
 decreases-postfix l = 16 * (length l.tokens.now.tokens + 2 - l.at) + 1
 
