@@ -6,8 +6,8 @@
 -- a bad pointer, the word of `pm_free`, `abort` or a loop out of ticks, or the name of a call that
 -- is too deep or out of ticks.
 --
--- Types are recomputed while a program runs: `struct_pointed_by` calls `type_of`. So the typing
--- definitions of c_types are part of what must be believed.
+-- Types are recomputed while a program runs: `struct_pointed_by` and `sides_type` call `type_of`.
+-- So the typing definitions of c_types are part of what must be believed.
 --
 -- The outer recursion is on `room`, the number of functions that may still be opened, and the inner
 -- one on the tree, to which the calls are passed as a function. A loop is a recursion on the ticks
@@ -27,11 +27,15 @@ use Rattle.c_tree.specs.declared.stmt.AssignOp.{AssignOp}
 use Rattle.c_tree.specs.declared.stmt.AssignOp.TheVariants as assign
 use Rattle.c_tree.specs.declared.stmt.StepOp.{StepOp}
 use Rattle.c_tree.specs.declared.stmt.StepOp.TheVariants as step
+use Rattle.c_tree.specs.declared.expr.IntType.{IntType}
+use Rattle.c_tree.specs.declared.expr.IntType.TheVariants.{Signed}
+use Rattle.c_types.specs.Expressions.{sides_type}
 use Rattle.c_types.specs.Tables.{Tables, function_named, declared_type}
 use Rattle.pool_map.specs.declared.trap.TrapKind.{TrapKind}
 use Rattle.pool_map.specs.declared.trap.TrapKind.TheVariants as trap
 use Rattle.pool_map.specs.PoolMap.{PoolMap}
 use Rattle.c_meaning.specs.Locals.{Local, value_named, assigned, oldest, local_declared, bound}
+use Rattle.c_meaning.specs.Locals.{scopes_of}
 use Rattle.c_meaning.specs.declared.trap_at.TrapAt.{TrapAt}
 use Rattle.pool_map.specs.declared.word.PoolWord.{PoolWord}
 use Rattle.pool_map.specs.Words.{read_word, write_word}
@@ -146,10 +150,10 @@ abbrev pub made : ℤ × PoolMap → ℕ → Out ℤ
 made r k = Got r.0 r.1 k
 
 -- both sides are evaluated, the left one first; a division by 0 traps
-abbrev pub strict : BinaryOp → (place : ℕ) → Out ℤ → (PoolMap → ℕ → Out ℤ) → Out ℤ
-strict op place a b = then_do a
+abbrev pub strict : BinaryOp → IntType → (place : ℕ) → Out ℤ → (PoolMap → ℕ → Out ℤ) → Out ℤ
+strict op n place a b = then_do a
     (λ x p k. then_do (b p k)
-    (λ y p k. or_trap (binary_of op x y) (placed_trap trap.Divide place) p k))
+    (λ y p k. or_trap (binary_of op n x y) (placed_trap trap.Divide place) p k))
 
 -- `&&` and `||` evaluate their right side only if the left side doesn't decide
 abbrev pub both : Out ℤ → (PoolMap → ℕ → Out ℤ) → Out ℤ
@@ -160,25 +164,25 @@ abbrev pub either : Out ℤ → (PoolMap → ℕ → Out ℤ) → Out ℤ
 either a b = then_do a (λ x p k.
     at_zero x (then_do (b p k) (λ y p k. Got (at_zero y (pos 0) (pos 1)) p k)) (Got (pos 1) p k))
 
-abbrev pub binary_means : BinaryOp → (place : ℕ) → Out ℤ → (PoolMap → ℕ → Out ℤ) → Out ℤ
-binary_means binary.Both place a b = both a b
-binary_means binary.Either place a b = either a b
-binary_means binary.Mul place a b = strict binary.Mul place a b
-binary_means binary.Div place a b = strict binary.Div place a b
-binary_means binary.Rem place a b = strict binary.Rem place a b
-binary_means binary.Add place a b = strict binary.Add place a b
-binary_means binary.Sub place a b = strict binary.Sub place a b
-binary_means binary.ShiftLeft place a b = strict binary.ShiftLeft place a b
-binary_means binary.ShiftRight place a b = strict binary.ShiftRight place a b
-binary_means binary.Less place a b = strict binary.Less place a b
-binary_means binary.LessEqual place a b = strict binary.LessEqual place a b
-binary_means binary.Greater place a b = strict binary.Greater place a b
-binary_means binary.GreaterEqual place a b = strict binary.GreaterEqual place a b
-binary_means binary.Equal place a b = strict binary.Equal place a b
-binary_means binary.NotEqual place a b = strict binary.NotEqual place a b
-binary_means binary.And place a b = strict binary.And place a b
-binary_means binary.Xor place a b = strict binary.Xor place a b
-binary_means binary.Or place a b = strict binary.Or place a b
+abbrev pub binary_means : BinaryOp → IntType → (place : ℕ) → Out ℤ → (PoolMap → ℕ → Out ℤ) → Out ℤ
+binary_means binary.Both n place a b = both a b
+binary_means binary.Either n place a b = either a b
+binary_means binary.Mul n place a b = strict binary.Mul n place a b
+binary_means binary.Div n place a b = strict binary.Div n place a b
+binary_means binary.Rem n place a b = strict binary.Rem n place a b
+binary_means binary.Add n place a b = strict binary.Add n place a b
+binary_means binary.Sub n place a b = strict binary.Sub n place a b
+binary_means binary.ShiftLeft n place a b = strict binary.ShiftLeft n place a b
+binary_means binary.ShiftRight n place a b = strict binary.ShiftRight n place a b
+binary_means binary.Less n place a b = strict binary.Less n place a b
+binary_means binary.LessEqual n place a b = strict binary.LessEqual n place a b
+binary_means binary.Greater n place a b = strict binary.Greater n place a b
+binary_means binary.GreaterEqual n place a b = strict binary.GreaterEqual n place a b
+binary_means binary.Equal n place a b = strict binary.Equal n place a b
+binary_means binary.NotEqual n place a b = strict binary.NotEqual n place a b
+binary_means binary.And n place a b = strict binary.And n place a b
+binary_means binary.Xor n place a b = strict binary.Xor n place a b
+binary_means binary.Or n place a b = strict binary.Or n place a b
 
 -- A call takes a tick after its arguments and before its body. A call of a function that doesn't
 -- exist gives 0.
@@ -209,7 +213,8 @@ abbrev mutual
   value_of t calls (expr.Unary op place a) ls p k =
       then_do (value_of t calls a ls p k) (λ x p k. Got (unary_of op x) p k)
   value_of t calls (expr.Binary op place a b) ls p k =
-      binary_means op place (value_of t calls a ls p k) (λ p k. value_of t calls b ls p k)
+      binary_means op (sides_type t (scopes_of ls) op a b) place (value_of t calls a ls p k)
+      (λ p k. value_of t calls b ls p k)
   -- one side is evaluated, and not the other
   value_of t calls (expr.Conditional c place a b) ls p k =
       then_do (value_of t calls c ls p k)
@@ -270,16 +275,17 @@ assign_to t calls None target value ls p k = with_value (operands_of t calls tar
 
 -- base and index once, the checks and the load, the right side, and then the checks again and the
 -- store
-abbrev pub update : Tables → Calls → Option (List ℕ) → ExprTree → BinaryOp → (place : ℕ)
-    → (PoolMap → ℕ → Out ℤ) → List Local → PoolMap → ℕ → StmtEnd
-update t calls (Some name) target op place right ls p k =
+abbrev pub update : Tables → Calls → Option (List ℕ) → ExprTree → BinaryOp → IntType
+    → (place : ℕ) → (PoolMap → ℕ → Out ℤ) → List Local → PoolMap → ℕ → StmtEnd
+update t calls (Some name) target op n place right ls p k =
     with_value (right p k) (λ y p k.
-    with_value (or_trap (binary_of op (value_named name ls) y) (placed_trap trap.Divide place) p k)
+    with_value
+    (or_trap (binary_of op n (value_named name ls) y) (placed_trap trap.Divide place) p k)
     (λ v p k. Next (assigned name v ls) p k))
-update t calls None target op place right ls p k = with_value (operands_of t calls target ls p k)
+update t calls None target op n place right ls p k = with_value (operands_of t calls target ls p k)
     (λ o p k. with_value (loaded (located t ls p target o.0 o.1) p k)
     (λ x p k. with_value (right p k)
-    (λ y p k. with_value (or_trap (binary_of op x y) (placed_trap trap.Divide place) p k)
+    (λ y p k. with_value (or_trap (binary_of op n x y) (placed_trap trap.Divide place) p k)
     (λ v p k. stored_end (located t ls p target o.0 o.1) v ls p k))))
 
 -- the local that a target is, if it is one
@@ -305,14 +311,16 @@ abbrev pub assign_end : Tables → Calls → AssignOp → (place : ℕ) → Expr
 assign_end t calls assign.Set place target e ls p k =
     assign_to t calls (target_local target) target (λ p k. value_of t calls e ls p k) ls p k
 assign_end t calls (assign.Update op) place target e ls p k = update t calls (target_local target)
-    target (update_binary op) place (λ p k. value_of t calls e ls p k) ls p k
+    target (update_binary op) (sides_type t (scopes_of ls) (update_binary op) target e) place
+    (λ p k. value_of t calls e ls p k) ls p k
 
+-- the sum and the difference are the same of both types of ints
 abbrev pub steps : Tables → Calls → StepOp → (place : ℕ) → ExprTree → List Local → PoolMap
     → ℕ → StmtEnd
 steps t calls step.Up place target ls p k = update t calls (target_local target) target binary.Add
-    place (λ p k. Got (pos 1) p k) ls p k
+    Signed place (λ p k. Got (pos 1) p k) ls p k
 steps t calls step.Down place target ls p k = update t calls (target_local target) target binary.Sub
-    place (λ p k. Got (pos 1) p k) ls p k
+    Signed place (λ p k. Got (pos 1) p k) ls p k
 
 abbrev pub end_of_simple : Tables → Calls → SimpleTree → List Local → PoolMap → ℕ → StmtEnd
 end_of_simple t calls (stmt.Assign target op place e) ls p k =

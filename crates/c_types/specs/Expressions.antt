@@ -1,8 +1,12 @@
 -- The types of expressions, and the rules that they break, as functions of the tree and the scopes.
-use Rattle.std.specs.Prelude.{ℕ, suc, ◌+◌, List, [], ◌∷◌, ◌++◌, length, Bool, true, false, not}
+use Rattle.std.specs.Prelude.{ℕ, ℤ, pos, negsuc, suc, ◌+◌, List, [], ◌∷◌, ◌++◌, length, Bool, true}
+use Rattle.std.specs.Prelude.{false, not}
 use Rattle.std.specs.Prelude.{◌&&◌, ◌||◌, nat_le, nat_eq, if◌then◌else◌, Option, None, Some}
 use Rattle.std.specs.Prelude.{is_some, option_and_then, unwrap_or, slice_get}
 use Rattle.std.specs.Option.{option_map_or}
+use Rattle.c_tree.specs.declared.expr.BinaryOp.{BinaryOp}
+use Rattle.c_tree.specs.declared.expr.IntType.{IntType}
+use Rattle.c_tree.specs.declared.expr.IntType.TheVariants.{Signed, Unsigned}
 use Rattle.c_tree.specs.ExprTree.{ExprTree, Arguments, Ident}
 use Rattle.c_tree.specs.ExprTree as expr
 use Rattle.c_tree.specs.ItemTree.{FunctionTree, FieldTree, ParameterTree}
@@ -16,7 +20,7 @@ use Rattle.c_types.specs.declared.broken.Rule.TheVariants.{BadTx}
 use Rattle.c_types.specs.declared.broken.Broken.{Broken}
 use Rattle.c_types.specs.Broken.{broken_at, unless}
 use Rattle.c_types.specs.Fits.{is_any, is_int, type_takes, comparable, common_type, joins_types}
-use Rattle.c_types.specs.Fits.{applies}
+use Rattle.c_types.specs.Fits.{applies, unary_type, binary_type, computes_with}
 use Rattle.c_types.specs.Tables.{Tables, index_of, struct_named, function_named, field_named}
 use Rattle.c_types.specs.Tables.{root_struct, is_length, words_at, pointer_type, declared_type}
 
@@ -80,13 +84,13 @@ root_broken t name = option_map_or (λ i. member_broken t i name) (root_struct t
 -- a field of the object that a pointer leads to
 abbrev pub arrow_kind : Tables → ValueType → Ident → Kind
 arrow_kind t (Pointer i) name = member_kind t i name
-arrow_kind t Int name = Value Any
+arrow_kind t (Int n) name = Value Any
 arrow_kind t Null name = Value Any
 arrow_kind t Any name = Value Any
 
 abbrev pub arrow_broken : Tables → ValueType → ℕ → Ident → List Broken
 arrow_broken t (Pointer i) place name = member_broken t i name
-arrow_broken t Int place name = broken_at place Mismatch
+arrow_broken t (Int n) place name = broken_at place Mismatch
 arrow_broken t Null place name = broken_at place Mismatch
 arrow_broken t Any place name = []
 
@@ -94,7 +98,7 @@ arrow_broken t Any place name = []
 abbrev pub is_indexed : Kind → Bool
 is_indexed (Array element place) = true
 is_indexed (Value Any) = true
-is_indexed (Value Int) = false
+is_indexed (Value (Int n)) = false
 is_indexed (Value Null) = false
 is_indexed (Value (Pointer s)) = false
 
@@ -150,10 +154,15 @@ abbrev pub argument_count : Arguments → ℕ
 argument_count expr.None = 0
 argument_count (expr.More first value rest) = suc (argument_count rest)
 
+-- a number from 2^63 on, which as a word is below 0, is of the type `uint64_t`
+abbrev pub number_type : ℤ → IntType
+number_type (pos n) = Signed
+number_type (negsuc n) = Unsigned
+
 abbrev mutual
   -- what an expression denotes
   pub kind_of : Tables → List Scope → ExprTree → Kind
-  kind_of t s (expr.Number n) = Value Int
+  kind_of t s (expr.Number n) = Value (Int (number_type n))
   kind_of t s expr.Null = Value Null
   kind_of t s (expr.Variable name) = Value (variable_kind s name)
   kind_of t s (expr.Call name all) = let f = function_named t name.text in
@@ -165,10 +174,10 @@ abbrev mutual
       Value (type_if (is_indexed (kind_of t s base) && is_int i && not (is_any i))
       (element_of (kind_of t s base)))
   kind_of t s (expr.Unary op place a) = let x = type_of_kind (kind_of t s a) in
-      Value (type_if (applies op x && not (is_any x)) Int)
+      Value (type_if (applies op x && not (is_any x)) (unary_type op x))
   kind_of t s (expr.Binary op place a b) = let x = type_of_kind (kind_of t s a) in
       let y = type_of_kind (kind_of t s b) in
-      Value (type_if (joins_types op x y && not (is_any x) && not (is_any y)) Int)
+      Value (type_if (joins_types op x y && not (is_any x) && not (is_any y)) (binary_type op x y))
   kind_of t s (expr.Conditional c place a b) =
       Value (conditional_type (type_of_kind (kind_of t s c)) (type_of_kind (kind_of t s a))
       (type_of_kind (kind_of t s b)))
@@ -182,6 +191,10 @@ abbrev mutual
 -- the type of an expression that is used as a value
 abbrev pub type_of : Tables → List Scope → ExprTree → ValueType
 type_of t s e = type_of_kind (kind_of t s e)
+
+-- the ints that a binary operator computes with, of the types of its sides
+abbrev pub sides_type : Tables → List Scope → BinaryOp → (left right : ExprTree) → IntType
+sides_type t s op a b = computes_with op (type_of t s a) (type_of t s b)
 
 -- the rules broken by an expression that is used as a value: its own, and that an array field must
 -- be indexed

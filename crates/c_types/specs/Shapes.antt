@@ -1,9 +1,12 @@
 -- What a typed program provides: the shapes of its root and of its numbered structs, which are
 -- those of at most 15 words, and its transactions, each in the order of the text.
-use Rattle.std.specs.Prelude.{List, [], ◌∷◌, map, if◌then◌else◌, nat_le, option_map}
+use Rattle.std.specs.Prelude.{Bool, true, false, List, [], ◌∷◌, map, if◌then◌else◌, nat_le}
+use Rattle.std.specs.Prelude.{option_map}
 use Rattle.std.specs.Prelude.{option_and_then, slice_get}
 use Rattle.std.specs.Option.{option_map_or}
 use Rattle.std.specs.Int.{w64, cast_unsigned}
+use Rattle.c_tree.specs.declared.expr.IntType.TheVariants.{Unsigned}
+use Rattle.c_tree.specs.StmtTree.{TypeTree, Int}
 use Rattle.c_tree.specs.ItemTree.{FieldTree, FunctionTree}
 use Rattle.c_tree.specs.Program.{Program, tree_of}
 use Rattle.pool_map.specs.declared.shapes.FieldShape.{FieldShape}
@@ -11,9 +14,15 @@ use Rattle.pool_map.specs.declared.shapes.StructShape.{StructShape}
 use Rattle.pool_map.specs.declared.shapes.Shapes.{Shapes}
 use Rattle.c_types.specs.Tables.{Tables, StructTree, tables_of, words_of_struct, root_struct}
 
+-- whether a type is `uint64_t`
+abbrev pub is_unsigned : TypeTree → Bool
+is_unsigned (Int Unsigned) = true
+is_unsigned _ = false
+
 abbrev pub field_shape : FieldTree → FieldShape
 field_shape f = record {
   name = f.name.text;
+  unsigned = is_unsigned f.ty;
   length = option_map (λ l. cast_unsigned w64 l.value) f.len;
 }
 

@@ -41,7 +41,7 @@ is_declared name (s ∷ ss) = is_some (index_of name s.names)
 
 -- a type as it is written
 abbrev pub type_broken : Tables → TypeTree → List Broken
-type_broken t stmt.Int = []
+type_broken t (stmt.Int n) = []
 type_broken t (stmt.Pointer name) = pointer_broken t name
 
 -- a field of the root, or one reached by `->`

@@ -119,13 +119,13 @@ pointer_type t name = option_map_or (λ i. if nat_le (words_at t i) 15 then Poin
 
 -- the type of what is declared with a type, which is any if the type is refused
 abbrev pub declared_type : Tables → TypeTree → ValueType
-declared_type t stmt.Int = Int
+declared_type t (stmt.Int n) = Int n
 declared_type t (stmt.Pointer name) = pointer_type t name.text
 
 -- the place of the struct that a value of this type points to
 abbrev pub pointed_struct : ValueType → Option ℕ
 pointed_struct (Pointer i) = Some i
-pointed_struct Int = None
+pointed_struct (Int n) = None
 pointed_struct Null = None
 pointed_struct Any = None
 

@@ -1,15 +1,24 @@
--- What is kept of a transaction: its name, the number of its parameters, and its mark.
-use Rattle.std.specs.Prelude.{length, Bool, true, false}
+-- What is kept of a transaction: its name, the number of its parameters, which of them are of
+-- `uint64_t`, its mark, and whether it returns `uint64_t`.
+use Rattle.std.specs.Prelude.{length, Bool, true, false, List, map}
+use Rattle.std.specs.Option.{option_map_or}
 use Rattle.c_tree.specs.declared.item.Marked.{Marked}
 use Rattle.c_tree.specs.declared.item.Marked.TheVariants as mark
-use Rattle.c_tree.specs.ItemTree.{FunctionTree}
+use Rattle.c_tree.specs.ItemTree.{FunctionTree, ParameterTree}
+use Rattle.c_types.specs.Shapes.{is_unsigned}
 use Rattle.c_types.specs.declared.transactions.Transaction.{Transaction}
+
+-- whether each parameter is of `uint64_t`
+abbrev pub parameter_types : FunctionTree → List Bool
+parameter_types f = map (λ (p : ParameterTree). is_unsigned p.ty) f.parameters
 
 abbrev pub entry_of : FunctionTree → Transaction
 entry_of f = record {
   name = f.name.text;
   parameters = length f.parameters;
+  types = parameter_types f;
   mark = f.mark;
+  unsigned = option_map_or is_unsigned f.result_type false;
 }
 
 -- whether a transaction with this mark rolls back where it traps, and whether it only looks

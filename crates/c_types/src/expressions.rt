@@ -15,10 +15,13 @@ use crate::broken::{Broken, Rule, expect, note};
 use crate::fault::LimitKind;
 use crate::layout::is_length;
 use crate::program::Program;
-use crate::rules::{applies, common_type, comparable, is_any, is_int, joins_types, type_takes};
+use crate::rules::{
+    applies, binary_type, common_type, comparable, is_any, is_int, joins_types, type_takes,
+    unary_type,
+};
 use crate::scopes::Scopes;
 use crate::value_type::{Kind, ValueType};
-use c_tree::expr::{Argument, BinaryOp, Expr, Name, UnaryOp};
+use c_tree::expr::{Argument, BinaryOp, Expr, IntType, Name, UnaryOp};
 use c_tree::item::{Field, Function, Parameter};
 
 /// What an expression denotes.
@@ -35,7 +38,7 @@ pub fn kind(
         (meaning.broken_in (tables_in program.now) scopes.now (expr_of expr.now)) }
 {
     match expr {
-        Expr::Number(_) => Kind::Value(ValueType::Int),
+        Expr::Number(word) => Kind::Value(ValueType::Int(number_type(*word))),
         Expr::Null => Kind::Value(ValueType::Null),
         Expr::Variable(name) => Kind::Value(variable(scopes, name, least)),
         Expr::Call { name, arguments } => {
@@ -77,6 +80,17 @@ pub fn kind(
             let right = value(program, scopes, right, least);
             Kind::Value(conditional(*place, tested, left, right, least))
         }
+    }
+}
+
+/// The type of a number, of the word with its bits.
+fn number_type(word: i64) -> IntType
+    ensures { result ≡ meaning.number_type word }
+{
+    if word < 0 {
+        IntType::Unsigned
+    } else {
+        IntType::Signed
     }
 }
 
@@ -280,7 +294,7 @@ fn arrow(
 {
     match base {
         ValueType::Pointer(at) => member(program, at, field, least),
-        ValueType::Int => {
+        ValueType::Int(_) => {
             note(least, place, Rule::Mismatch);
             Kind::Value(ValueType::Any)
         }
@@ -342,7 +356,7 @@ fn is_indexed(base: Kind) -> bool
     match base {
         Kind::Array { .. } => true,
         Kind::Value(ValueType::Any) => true,
-        Kind::Value(ValueType::Int) => false,
+        Kind::Value(ValueType::Int(_)) => false,
         Kind::Value(ValueType::Null) => false,
         Kind::Value(ValueType::Pointer(_)) => false,
     }
@@ -376,13 +390,13 @@ fn element(base: Kind, place: u64, index: ValueType, least: &mut Option<Broken>)
 
 fn unary(op: UnaryOp, place: u64, operand: ValueType, least: &mut Option<Broken>) -> ValueType
     ensures kind { result ≡ meaning.type_if (fits.applies op operand && not (fits.is_any operand))
-        ValueType.Int }
+        (fits.unary_type op operand) }
     ensures told { least.new ≡ least_from least.old
         (unless (fits.applies op operand) place Rule.Mismatch) }
 {
     let applied = applies(op, operand);
     expect(least, applied, place, Rule::Mismatch);
-    type_if(applied && !is_any(operand), ValueType::Int)
+    type_if(applied && !is_any(operand), unary_type(op, operand))
 }
 
 fn binary(
@@ -393,13 +407,14 @@ fn binary(
     least: &mut Option<Broken>,
 ) -> ValueType
     ensures kind { result ≡ meaning.type_if (fits.joins_types op left right
-        && not (fits.is_any left) && not (fits.is_any right)) ValueType.Int }
+        && not (fits.is_any left) && not (fits.is_any right)) (fits.binary_type op left right) }
     ensures told { least.new ≡ least_from least.old
         (unless (fits.joins_types op left right) place Rule.Mismatch) }
 {
     let joined = joins_types(op, left, right);
     expect(least, joined, place, Rule::Mismatch);
-    type_if(joined && !is_any(left) && !is_any(right), ValueType::Int)
+    let given = binary_type(op, left, right);
+    type_if(joined && !is_any(left) && !is_any(right), given)
 }
 
 fn conditional(

@@ -29,5 +29,5 @@ pub use layout::Layout;
 pub use program::Program;
 pub use scopes::Scopes;
 pub use typed::Typed;
-pub use typing::{kind_of, type_of};
+pub use typing::{kind_of, sides_type, type_of};
 pub use value_type::{Kind, ValueType};

@@ -182,7 +182,7 @@ impl<'a> Program<'a> {
         ensures { result ≡ tables.declared_type (tables_in self.now) (stmt.type_tree ty.now) }
     {
         match ty {
-            TypeName::Int => ValueType::Int,
+            TypeName::Int(int) => ValueType::Int(*int),
             TypeName::Pointer(name) => self.pointer_type(name.text.as_str()),
         }
     }

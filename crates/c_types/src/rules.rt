@@ -4,7 +4,7 @@ ghost use Rattle.std.specs.Prelude.{◌≡◌};
 ghost use Rattle.c_types.specs.Fits as fits;
 
 use crate::value_type::ValueType;
-use c_tree::expr::{BinaryOp, UnaryOp};
+use c_tree::expr::{BinaryOp, IntType, UnaryOp};
 use c_tree::stmt::AssignOp;
 
 /// Whether a value has the type of what is refused already, which fits everywhere.
@@ -13,7 +13,7 @@ pub fn is_any(value: ValueType) -> bool
 {
     match value {
         ValueType::Any => true,
-        ValueType::Int => false,
+        ValueType::Int(_) => false,
         ValueType::Null => false,
         ValueType::Pointer(_) => false,
     }
@@ -25,7 +25,7 @@ pub fn is_int(value: ValueType) -> bool
 {
     match value {
         ValueType::Any => true,
-        ValueType::Int => true,
+        ValueType::Int(_) => true,
         ValueType::Null => false,
         ValueType::Pointer(_) => false,
     }
@@ -37,7 +37,7 @@ pub fn is_pointer(value: ValueType) -> bool
 {
     match value {
         ValueType::Any => true,
-        ValueType::Int => false,
+        ValueType::Int(_) => false,
         ValueType::Null => false,
         ValueType::Pointer(_) => true,
     }
@@ -48,7 +48,7 @@ fn is_null(value: ValueType) -> bool
 {
     match value {
         ValueType::Any => true,
-        ValueType::Int => false,
+        ValueType::Int(_) => false,
         ValueType::Null => true,
         ValueType::Pointer(_) => false,
     }
@@ -60,7 +60,7 @@ fn is_pointer_to(target: u64, value: ValueType) -> bool
 {
     match value {
         ValueType::Any => true,
-        ValueType::Int => false,
+        ValueType::Int(_) => false,
         ValueType::Null => true,
         ValueType::Pointer(other) => target == other,
     }
@@ -73,7 +73,7 @@ pub fn type_takes(target: ValueType, value: ValueType) -> bool
 {
     match target {
         ValueType::Any => true,
-        ValueType::Int => is_int(value),
+        ValueType::Int(_) => is_int(value),
         ValueType::Null => is_null(value),
         ValueType::Pointer(to) => is_pointer_to(to, value),
     }
@@ -86,25 +86,46 @@ pub fn comparable(left: ValueType, right: ValueType) -> bool
 {
     match left {
         ValueType::Any => true,
-        ValueType::Int => is_int(right),
+        ValueType::Int(_) => is_int(right),
         ValueType::Pointer(to) => is_pointer_to(to, right),
         ValueType::Null => match right {
             ValueType::Any => true,
             ValueType::Null => true,
-            ValueType::Int => false,
+            ValueType::Int(_) => false,
             ValueType::Pointer(_) => true,
         },
     }
 }
 
-/// The type of two such values together: that of the pointer where one of them is null.
+/// The type of ints that a type is; `int64_t` if it is none.
+pub fn int_of(value: ValueType) -> IntType
+    ensures { result ≡ fits.int_of value }
+{
+    match value {
+        ValueType::Int(int) => int,
+        _ => IntType::Signed,
+    }
+}
+
+/// The common type of two ints: `uint64_t` where one of them is.
+fn common_int(left: IntType, right: IntType) -> IntType
+    ensures { result ≡ fits.common_int left right }
+{
+    match left {
+        IntType::Signed => right,
+        IntType::Unsigned => IntType::Unsigned,
+    }
+}
+
+/// The type of two such values together: the common type of ints, and that of the pointer where one
+/// of them is null.
 pub fn common_type(left: ValueType, right: ValueType) -> ValueType
     ensures { result ≡ fits.common_type left right }
 {
     match left {
         ValueType::Null => right,
         ValueType::Any => left,
-        ValueType::Int => left,
+        ValueType::Int(int) => ValueType::Int(common_int(int, int_of(right))),
         ValueType::Pointer(_) => left,
     }
 }
@@ -143,6 +164,51 @@ pub fn applies(op: UnaryOp, operand: ValueType) -> bool
         UnaryOp::Not => true,
         UnaryOp::Negate => is_int(operand),
         UnaryOp::Complement => is_int(operand),
+        UnaryOp::Cast(_) => is_int(operand),
+    }
+}
+
+/// The ints that an operator computes with: the left side of a shift, else the common type of both.
+pub fn computes_with(op: BinaryOp, left: ValueType, right: ValueType) -> IntType
+    ensures { result ≡ fits.computes_with op left right }
+{
+    match op {
+        BinaryOp::ShiftLeft | BinaryOp::ShiftRight => int_of(left),
+        _ => common_int(int_of(left), int_of(right)),
+    }
+}
+
+/// Whether an operator's value is 0 or 1, of the type `int64_t`.
+fn gives_truth(op: BinaryOp) -> bool
+    ensures { result ≡ fits.gives_truth op }
+{
+    match op {
+        BinaryOp::Less | BinaryOp::LessEqual | BinaryOp::Greater | BinaryOp::GreaterEqual => true,
+        BinaryOp::Equal | BinaryOp::NotEqual | BinaryOp::Both | BinaryOp::Either => true,
+        _ => false,
+    }
+}
+
+/// The type of a binary operator's value.
+pub fn binary_type(op: BinaryOp, left: ValueType, right: ValueType) -> ValueType
+    ensures { result ≡ fits.binary_type op left right }
+{
+    if gives_truth(op) {
+        ValueType::Int(IntType::Signed)
+    } else {
+        ValueType::Int(computes_with(op, left, right))
+    }
+}
+
+/// The type of a unary operator's value.
+pub fn unary_type(op: UnaryOp, operand: ValueType) -> ValueType
+    ensures { result ≡ fits.unary_type op operand }
+{
+    match op {
+        UnaryOp::Not => ValueType::Int(IntType::Signed),
+        UnaryOp::Negate => ValueType::Int(int_of(operand)),
+        UnaryOp::Complement => ValueType::Int(int_of(operand)),
+        UnaryOp::Cast(int) => ValueType::Int(int),
     }
 }
 

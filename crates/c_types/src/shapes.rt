@@ -3,12 +3,15 @@
 ghost use Rattle.std.specs.Prelude.{◌≡◌, IfOk, map, option_map};
 ghost use Rattle.std.specs.Int.{w64, cast_unsigned};
 ghost use Rattle.c_tree.specs.ItemTree.{field_tree, length_tree};
+ghost use Rattle.c_tree.specs.StmtTree.{type_tree};
 ghost use Rattle.c_types.specs.Shapes as meaning;
 ghost use Rattle.c_types.specs.Views.{tables_in};
 
 use crate::layout::Layout;
 use crate::program::Program;
+use c_tree::expr::IntType;
 use c_tree::item::{Field, Length};
+use c_tree::stmt::TypeName;
 use nvm_base::Text;
 use pool_map::{FieldShape, FieldShapes, Shapes, StructShape, StructShapes};
 use std::alloc::{AllocError, Global};
@@ -70,7 +73,21 @@ fn field_shape(alloc: Global, field: &Field) -> Result<FieldShape, AllocError>
 {
     let name = copied(alloc, field.name.text.as_str())?;
     let length = length_shape(&field.length);
-    Ok(FieldShape { name, length })
+    Ok(FieldShape {
+        name,
+        unsigned: is_unsigned(&field.ty),
+        length,
+    })
+}
+
+/// Whether a type is `uint64_t`.
+pub fn is_unsigned(ty: &TypeName) -> bool
+    ensures { result ≡ meaning.is_unsigned (type_tree ty.now) }
+{
+    match ty {
+        TypeName::Int(IntType::Unsigned) => true,
+        _ => false,
+    }
 }
 
 fn length_shape(length: &Option<Length>) -> Option<u64>

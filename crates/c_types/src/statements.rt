@@ -267,7 +267,7 @@ pub fn written_type(program: &Program<'_>, ty: &TypeName, least: &mut Option<Bro
         (meaning.type_broken (tables_in program.now) (tree.type_tree ty.now)) }
 {
     match ty {
-        TypeName::Int => {}
+        TypeName::Int(_) => {}
         TypeName::Pointer(name) => {
             pointer_to(program, name, least);
         }

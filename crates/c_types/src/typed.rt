@@ -1,11 +1,13 @@
 //! A tree that breaks no typing rule, and what it provides.
 
 ghost use Rattle.std.specs.Prelude.{◌≡◌, ◌≤◌, ◌-◌, IfOk, length, map, option_map, suc, slice_get};
-ghost use Rattle.std.specs.Prelude.{Some};
+ghost use Rattle.std.specs.Prelude.{Some, false};
+ghost use Rattle.std.specs.Option.{option_map_or};
+ghost use Rattle.c_types.specs.Shapes.{is_unsigned};
 ghost use Rattle.c_tree.specs.ItemTree.{FunctionTree};
 ghost use Rattle.c_types.specs.Tables.{index_of};
 ghost use Rattle.c_types.specs.Shapes.{shapes_of, transactions_of};
-ghost use Rattle.c_types.specs.Transactions.{entry_of, is_abort, is_const};
+ghost use Rattle.c_types.specs.Transactions.{entry_of, parameter_types, is_abort, is_const};
 ghost use Rattle.c_types.specs.declared.transactions.Transaction as kept;
 
 use crate::program::Program;
@@ -124,6 +126,26 @@ impl Typed {
             (slice_get (transactions_of self.now) (tx - 1)) }
     {
         is_const(self.transactions[(tx - 1) as usize].mark)
+    }
+
+    /// Whether each parameter of a transaction is of `uint64_t`.
+    pub fn parameter_types(&self, tx: u64) -> &[bool]
+        requires from { 1 ≤ tx }
+        requires to { tx ≤ length (transactions_of self.now) }
+        ensures { Some result.now ≡ option_map parameter_types
+            (slice_get (transactions_of self.now) (tx - 1)) }
+    {
+        self.transactions[(tx - 1) as usize].types.as_slice()
+    }
+
+    /// Whether a transaction returns `uint64_t`.
+    pub fn unsigned(&self, tx: u64) -> bool
+        requires from { 1 ≤ tx }
+        requires to { tx ≤ length (transactions_of self.now) }
+        ensures { Some result ≡ option_map (λ f. option_map_or is_unsigned f.result_type false)
+            (slice_get (transactions_of self.now) (tx - 1)) }
+    {
+        self.transactions[(tx - 1) as usize].unsigned
     }
 
     /// The number of numbered structs.

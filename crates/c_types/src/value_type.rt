@@ -3,12 +3,14 @@
 ghost use Rattle.std.specs.Prelude.{◌≡◌};
 ghost use Rattle.c_types.specs.Tables.{pointed_struct};
 
+use c_tree::expr::IntType;
+
 /// The type of a value. If a part of an expression was refused, its type is `Any`, which breaks no
 /// rule.
 #[derive(Clone, Copy, PartialEq, Eq)]
 pub enum ValueType {
-    /// `int64_t`
-    Int,
+    /// `int64_t` or `uint64_t`
+    Int(IntType),
     /// A pointer to the struct at this place among the structs, counted from 0.
     Pointer(u64),
     /// `NULL`
@@ -23,7 +25,7 @@ impl ValueType {
     {
         match self {
             ValueType::Pointer(at) => Some(at),
-            ValueType::Int => None,
+            ValueType::Int(_) => None,
             ValueType::Null => None,
             ValueType::Any => None,
         }

@@ -7,6 +7,7 @@ use Rattle.std.proofs.lemmas.List.{reverse-append, length-reverse, reverse-rever
 use Rattle.std.proofs.Math.Seq.{drop-append_seam, take-append_seam}
 use Rattle.std.specs.Option.{option_map_or}
 use Rattle.c_tree.specs.declared.expr.Argument.{Argument}
+use Rattle.c_tree.specs.declared.expr.IntType.{IntType}
 use Rattle.c_tree.specs.declared.expr.BinaryOp.{BinaryOp}
 use Rattle.c_tree.specs.ExprTree.{ExprTree, expr_of, arguments_in}
 use Rattle.c_tree.specs.ExprTree as expr
@@ -475,70 +476,76 @@ variable-value t cs (expr.Binary op place a b) name ls p k is = cc
 variable-value t cs (expr.Conditional c place a b) name ls p k is = cc
 
 -- the right side and the operator, with the left value on the stack
-by-binary : (t : Tables) (s : ResumeState) (x : Todo) (op : BinaryOp) (place : ℕ) (xs : List Todo)
-    (vs : List ℤ) (left_function : ℤ) (right : PoolMap → ℕ → Out ℤ) (f : ℤ → PoolMap → ℕ → StmtEnd)
+by-binary : (t : Tables) (s : ResumeState) (x : Todo) (op : BinaryOp) (int : IntType) (place : ℕ)
+    (xs : List Todo) (vs : List ℤ) (left_function : ℤ) (right : PoolMap → ℕ → Out ℤ)
+    (f : ℤ → PoolMap → ℕ → StmtEnd)
     (p : PoolMap) (k : ℕ) → IsRight t s x right
     → ((v : ℤ) (p : PoolMap) (k : ℕ) → resume t xs (v ∷ vs) s.below (Next s.top p k)
     ≡ resume t (seen s) s.values s.below (f v p k))
-    → resume t (x ∷ todo.Word (word_task.Binary op place) ∷ xs) (left_function ∷ vs) s.below
+    → resume t (x ∷ todo.Word (word_task.Binary op int place) ∷ xs) (left_function ∷ vs) s.below
     (Next s.top p k)
     ≡ resume t (seen s) s.values s.below
     (with_value (right p k) (λ y p k.
-    with_value (or_trap (binary_of op left_function y) (placed_trap trap.Divide place) p k) f))
-by-binary t s x op place xs vs left_function right f p k is h =
-    is (resume t (todo.Word (word_task.Binary op place) ∷ xs)) (left_function ∷ vs) p k
-    ∙ ended-onto t (seen s) (resume t (todo.Word (word_task.Binary op place) ∷ xs))
+    with_value (or_trap (binary_of op int left_function y) (placed_trap trap.Divide place) p k) f))
+by-binary t s x op int place xs vs left_function right f p k is h =
+    is (resume t (todo.Word (word_task.Binary op int place) ∷ xs)) (left_function ∷ vs) p k
+    ∙ ended-onto t (seen s) (resume t (todo.Word (word_task.Binary op int place) ∷ xs))
     (left_function ∷ vs) s.values s.below s.top (right p k)
     (λ y p k. with_value
-    (or_trap (binary_of op left_function y) (placed_trap trap.Divide place) p k) f)
+    (or_trap (binary_of op int left_function y) (placed_trap trap.Divide place) p k) f)
     (λ y p k. ended-onto t (seen s) (resume t xs) vs s.values s.below s.top
-    (or_trap (binary_of op left_function y) (placed_trap trap.Divide place) p k) f h)
+    (or_trap (binary_of op int left_function y) (placed_trap trap.Divide place) p k) f h)
 
 pub update-local : (t : Tables) (s : ResumeState) (e : ExprTree) (name : List ℕ) (x : Todo)
-    (op : BinaryOp) (place : ℕ) (right : PoolMap → ℕ → Out ℤ) → target_local e ≡ Some name
+    (op : BinaryOp) (int : IntType) (place : ℕ) (right : PoolMap → ℕ → Out ℤ)
+    → target_local e ≡ Some name
     → IsRight t s x right
-    → pushed (resume t (x ∷ todo.Word (word_task.Binary op place) ∷ todo.Assign name ∷ seen s))
+    → pushed (resume t (x ∷ todo.Word (word_task.Binary op int place) ∷ todo.Assign name ∷ seen s))
     s.values s.below s.top (value_of t (calls t s.below) e s.top s.pool s.ticks)
     ≡ resume t (seen s) s.values s.below
-    (update t (calls t s.below) (target_local e) e op place right s.top s.pool s.ticks)
-update-local t s e name x op place right is h =
+    (update t (calls t s.below) (target_local e) e op int place right s.top s.pool s.ticks)
+update-local t s e name x op int place right is h =
     rw (variable-value t (calls t s.below) e name s.top s.pool s.ticks is, is)
-    (by-binary t s x op place (todo.Assign name ∷ seen s) s.values (value_named name s.top) right
+    (by-binary t s x op int place (todo.Assign name ∷ seen s) s.values
+    (value_named name s.top) right
     (λ v p k. Next (assigned name v s.top) p k) s.pool s.ticks h (λ v p k. refl))
 
-by-update : (t : Tables) (s : ResumeState) (e : ExprTree) (x : Todo) (op : BinaryOp) (place : ℕ)
-    (right : PoolMap → ℕ → Out ℤ) (o : Out (ℤ × Option ℤ)) → IsRight t s x right → Shaped e o
+by-update : (t : Tables) (s : ResumeState) (e : ExprTree) (x : Todo) (op : BinaryOp)
+    (int : IntType) (place : ℕ) (right : PoolMap → ℕ → Out ℤ) (o : Out (ℤ × Option ℤ))
+    → IsRight t s x right → Shaped e o
     → pushed_operands (resume t (todo.Expr expr_task.Fetch e ∷ x
-    ∷ todo.Word (word_task.Binary op place) ∷ todo.Expr expr_task.Store e ∷ seen s))
+    ∷ todo.Word (word_task.Binary op int place) ∷ todo.Expr expr_task.Store e ∷ seen s))
     s.values s.below s.top o
     ≡ resume t (seen s) s.values s.below
     (with_value o (λ o p k. with_value
     (loaded (located t s.top p e o.0 o.1) p k)
     (λ x p k. with_value (right p k)
-    (λ y p k. with_value (or_trap (binary_of op x y) (placed_trap trap.Divide place) p k)
+    (λ y p k. with_value (or_trap (binary_of op int x y) (placed_trap trap.Divide place) p k)
     (λ v p k. stored_end (located t s.top p e o.0 o.1) v s.top p k)))))
-by-update t s e x op place right (Stops trap) is h =
+by-update t s e x op int place right (Stops trap) is h =
     sym (resume-traps t (seen s) s.values s.below trap)
-by-update t s e x op place right (Got o p k) is h =
+by-update t s e x op int place right (Got o p k) is h =
     let fits = h s.values in
     let store = todo.Expr expr_task.Store e ∷ seen s in
     rw (fits.0, fits.1, fits.2) (ended-onto t (seen s)
-    (resume t (x ∷ todo.Word (word_task.Binary op place) ∷ store)) (with_index o.1 (o.0 ∷ s.values))
+    (resume t (x ∷ todo.Word (word_task.Binary op int place) ∷ store))
+    (with_index o.1 (o.0 ∷ s.values))
     s.values s.below s.top
     (loaded (located t s.top p e o.0 o.1) p k) _
-    (λ l p k. by-binary t s x op place store (with_index o.1 (o.0 ∷ s.values)) l right
+    (λ l p k. by-binary t s x op int place store (with_index o.1 (o.0 ∷ s.values)) l right
     (λ v p k. stored_end (located t s.top p e o.0 o.1) v s.top p k) p k is
     (λ v p k. stored-fits t s e o v p k h)))
 
 pub update-field : (t : Tables) (s : ResumeState) (e : ExprTree) (x : Todo) (op : BinaryOp)
-    (place : ℕ) (right : PoolMap → ℕ → Out ℤ) → target_local e ≡ None → IsRight t s x right
+    (int : IntType) (place : ℕ) (right : PoolMap → ℕ → Out ℤ) → target_local e ≡ None
+    → IsRight t s x right
     → pushed_operands (resume t (todo.Expr expr_task.Fetch e ∷ x
-    ∷ todo.Word (word_task.Binary op place) ∷ todo.Expr expr_task.Store e ∷ seen s))
+    ∷ todo.Word (word_task.Binary op int place) ∷ todo.Expr expr_task.Store e ∷ seen s))
     s.values s.below s.top (operands_of t (calls t s.below) e s.top s.pool s.ticks)
     ≡ resume t (seen s) s.values s.below
-    (update t (calls t s.below) (target_local e) e op place right s.top s.pool s.ticks)
-update-field t s e x op place right is h =
-    rw is (by-update t s e x op place right
+    (update t (calls t s.below) (target_local e) e op int place right s.top s.pool s.ticks)
+update-field t s e x op int place right is h =
+    rw is (by-update t s e x op int place right
     (operands_of t (calls t s.below) e s.top s.pool s.ticks) h
     (shaped-operands t (calls t s.below) e s.top s.pool s.ticks))
 

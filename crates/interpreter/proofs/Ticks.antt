@@ -10,6 +10,8 @@ use Rattle.c_tree.specs.StmtTree.{InitialTree}
 use Rattle.c_tree.specs.StmtTree as stmt
 use Rattle.c_tree.specs.ItemTree.{FunctionTree}
 use Rattle.c_tree.specs.Operators.{update_binary}
+use Rattle.c_tree.specs.declared.expr.IntType.{IntType}
+use Rattle.c_tree.specs.declared.expr.IntType.TheVariants.{Signed}
 use Rattle.c_tree.specs.declared.expr.BinaryOp.{BinaryOp}
 use Rattle.c_tree.specs.declared.expr.BinaryOp.TheVariants as binary
 use Rattle.c_tree.specs.declared.stmt.AssignOp.{AssignOp}
@@ -17,12 +19,13 @@ use Rattle.c_tree.specs.declared.stmt.AssignOp.TheVariants as assign
 use Rattle.c_tree.specs.declared.stmt.StepOp.{StepOp}
 use Rattle.c_tree.specs.declared.stmt.StepOp.TheVariants as step
 use Rattle.std.specs.Option.{option_map_or}
+use Rattle.c_types.specs.Expressions.{sides_type}
 use Rattle.c_types.specs.Tables.{Tables, function_named}
 use Rattle.pool_map.specs.declared.trap.TrapKind.TheVariants as trap
 use Rattle.pool_map.specs.PoolMap.{PoolMap}
 use Rattle.c_meaning.specs.declared.trap_at.TrapAt.{TrapAt}
 use Rattle.pool_map.specs.declared.word.PoolWord.{PoolWord}
-use Rattle.c_meaning.specs.Locals.{Local, bound}
+use Rattle.c_meaning.specs.Locals.{Local, scopes_of, bound}
 use Rattle.c_meaning.specs.Access.{free_object}
 use Rattle.c_meaning.specs.Operators.{binary_of}
 use Rattle.interpreter.specs.inside.Resume.{body_end}
@@ -83,13 +86,14 @@ within-tick n (suc k) t go le h = h k (omega (arith, le))
 abbrev Keeps : (PoolMap → ℕ → Out ℤ) → Type 0
 Keeps b = (p : PoolMap) (k n : ℕ) → k ≤ n → Within n (b p k)
 
-within-joined : (n : ℕ) (op : BinaryOp) (place : ℕ) (a : Out ℤ) (b : PoolMap → ℕ → Out ℤ)
+within-joined : (n : ℕ) (op : BinaryOp) (int : IntType) (place : ℕ) (a : Out ℤ)
+    (b : PoolMap → ℕ → Out ℤ)
     → Within n a → Keeps b
-    → Within n (strict op place a b)
-within-joined n op place a b ha hb =
+    → Within n (strict op int place a b)
+within-joined n op int place a b ha hb =
     within-then n a _ ha (λ x p k le.
     within-then n (b p k) _ (hb p k n le) (λ y p k le.
-    within-or_trap n (binary_of op x y) (placed_trap trap.Divide place) p k le))
+    within-or_trap n (binary_of op int x y) (placed_trap trap.Divide place) p k le))
 
 within-truth : (n : ℕ) (b : Out ℤ) → Within n b
     → Within n (then_do b (λ y p k. Got (at_zero y (pos 0) (pos 1)) p k))
@@ -105,29 +109,34 @@ within-either : (n : ℕ) (a : Out ℤ) (b : PoolMap → ℕ → Out ℤ) → Wi
 within-either n a b ha hb = within-then n a _ ha (λ x p k le.
     within-zero n x _ (Got (pos 1) p k) (within-truth n (b p k) (hb p k n le)) le)
 
-within-binary : (n : ℕ) (op : BinaryOp) (place : ℕ) (a : Out ℤ) (b : PoolMap → ℕ → Out ℤ)
+within-binary : (n : ℕ) (op : BinaryOp) (int : IntType) (place : ℕ) (a : Out ℤ)
+    (b : PoolMap → ℕ → Out ℤ)
     → Within n a → Keeps b
-    → Within n (binary_means op place a b)
-within-binary n binary.Both place a b ha hb = within-both n a b ha hb
-within-binary n binary.Either place a b ha hb = within-either n a b ha hb
-within-binary n binary.Mul place a b ha hb = within-joined n binary.Mul place a b ha hb
-within-binary n binary.Div place a b ha hb = within-joined n binary.Div place a b ha hb
-within-binary n binary.Rem place a b ha hb = within-joined n binary.Rem place a b ha hb
-within-binary n binary.Add place a b ha hb = within-joined n binary.Add place a b ha hb
-within-binary n binary.Sub place a b ha hb = within-joined n binary.Sub place a b ha hb
-within-binary n binary.ShiftLeft place a b ha hb = within-joined n binary.ShiftLeft place a b ha hb
-within-binary n binary.ShiftRight place a b ha hb =
-    within-joined n binary.ShiftRight place a b ha hb
-within-binary n binary.Less place a b ha hb = within-joined n binary.Less place a b ha hb
-within-binary n binary.LessEqual place a b ha hb = within-joined n binary.LessEqual place a b ha hb
-within-binary n binary.Greater place a b ha hb = within-joined n binary.Greater place a b ha hb
-within-binary n binary.GreaterEqual place a b ha hb =
-    within-joined n binary.GreaterEqual place a b ha hb
-within-binary n binary.Equal place a b ha hb = within-joined n binary.Equal place a b ha hb
-within-binary n binary.NotEqual place a b ha hb = within-joined n binary.NotEqual place a b ha hb
-within-binary n binary.And place a b ha hb = within-joined n binary.And place a b ha hb
-within-binary n binary.Xor place a b ha hb = within-joined n binary.Xor place a b ha hb
-within-binary n binary.Or place a b ha hb = within-joined n binary.Or place a b ha hb
+    → Within n (binary_means op int place a b)
+within-binary n binary.Both int place a b ha hb = within-both n a b ha hb
+within-binary n binary.Either int place a b ha hb = within-either n a b ha hb
+within-binary n binary.Mul int place a b ha hb = within-joined n binary.Mul int place a b ha hb
+within-binary n binary.Div int place a b ha hb = within-joined n binary.Div int place a b ha hb
+within-binary n binary.Rem int place a b ha hb = within-joined n binary.Rem int place a b ha hb
+within-binary n binary.Add int place a b ha hb = within-joined n binary.Add int place a b ha hb
+within-binary n binary.Sub int place a b ha hb = within-joined n binary.Sub int place a b ha hb
+within-binary n binary.ShiftLeft int place a b ha hb =
+    within-joined n binary.ShiftLeft int place a b ha hb
+within-binary n binary.ShiftRight int place a b ha hb =
+    within-joined n binary.ShiftRight int place a b ha hb
+within-binary n binary.Less int place a b ha hb = within-joined n binary.Less int place a b ha hb
+within-binary n binary.LessEqual int place a b ha hb =
+    within-joined n binary.LessEqual int place a b ha hb
+within-binary n binary.Greater int place a b ha hb =
+    within-joined n binary.Greater int place a b ha hb
+within-binary n binary.GreaterEqual int place a b ha hb =
+    within-joined n binary.GreaterEqual int place a b ha hb
+within-binary n binary.Equal int place a b ha hb = within-joined n binary.Equal int place a b ha hb
+within-binary n binary.NotEqual int place a b ha hb =
+    within-joined n binary.NotEqual int place a b ha hb
+within-binary n binary.And int place a b ha hb = within-joined n binary.And int place a b ha hb
+within-binary n binary.Xor int place a b ha hb = within-joined n binary.Xor int place a b ha hb
+within-binary n binary.Or int place a b ha hb = within-joined n binary.Or int place a b ha hb
 
 within-called : (n : ℕ) (calls : Calls) (place : ℕ) (o : Option FunctionTree)
     (arguments : FunctionTree → Out (List ℤ)) (p : PoolMap) (k : ℕ)
@@ -164,7 +173,7 @@ mutual
       within-then n (value_of t calls a ls p k) _ (within-value t calls h a ls p k n le)
       (λ x p k le. le)
   within-value t calls h (expr.Binary op place a b) ls p k n le =
-      within-binary n op place (value_of t calls a ls p k) _
+      within-binary n op (sides_type t (scopes_of ls) op a b) place (value_of t calls a ls p k) _
       (within-value t calls h a ls p k n le) (λ p k n le. within-value t calls h b ls p k n le)
   within-value t calls h (expr.Conditional c place a b) ls p k n le =
       within-then n (value_of t calls c ls p k) _ (within-value t calls h c ls p k n le)
@@ -277,20 +286,21 @@ ends-assign_to t calls h None target value hv ls p k n le =
     ends-stored n (located t ls p target o.0 o.1) v ls p k le))
 
 ends-update : (t : Tables) (calls : Calls) (h : CallsWithin calls) (o : Option (List ℕ))
-    (target : ExprTree) (op : BinaryOp) (place : ℕ) (value : PoolMap → ℕ → Out ℤ)
+    (target : ExprTree) (op : BinaryOp) (int : IntType) (place : ℕ) (value : PoolMap → ℕ → Out ℤ)
     (hv : Keeps value) (ls : List Local) (p : PoolMap) (k n : ℕ) → k ≤ n
-    → Ends n (update t calls o target op place value ls p k)
-ends-update t calls h (Some name) target op place value hv ls p k n le =
+    → Ends n (update t calls o target op int place value ls p k)
+ends-update t calls h (Some name) target op int place value hv ls p k n le =
     ends-with n (value p k) _ (hv p k n le)
-    (λ y p k le. ends-with n (or_trap (binary_of op _ y) (placed_trap trap.Divide place) p k) _
-    (within-or_trap n (binary_of op _ y) (placed_trap trap.Divide place) p k le) (λ v p k le. le))
-ends-update t calls h None target op place value hv ls p k n le =
+    (λ y p k le. ends-with n (or_trap (binary_of op int _ y) (placed_trap trap.Divide place) p k) _
+    (within-or_trap n (binary_of op int _ y) (placed_trap trap.Divide place) p k le)
+    (λ v p k le. le))
+ends-update t calls h None target op int place value hv ls p k n le =
     ends-with n (operands_of t calls target ls p k) _ (within-operands t calls h target ls p k n le)
     (λ o p k le. ends-with n (loaded (located t ls p target o.0 o.1) p k) _
     (within-loaded n (located t ls p target o.0 o.1) p k le)
     (λ x p k le. ends-with n (value p k) _ (hv p k n le)
-    (λ y p k le. ends-with n (or_trap (binary_of op x y) (placed_trap trap.Divide place) p k) _
-    (within-or_trap n (binary_of op x y) (placed_trap trap.Divide place) p k le)
+    (λ y p k le. ends-with n (or_trap (binary_of op int x y) (placed_trap trap.Divide place) p k) _
+    (within-or_trap n (binary_of op int x y) (placed_trap trap.Divide place) p k le)
     (λ v p k le. ends-stored n (located t ls p target o.0 o.1) v ls p k le))))
 
 ends-assigns : (t : Tables) (calls : Calls) (h : CallsWithin calls) (op : AssignOp) (place : ℕ)
@@ -300,18 +310,19 @@ ends-assigns t calls h assign.Set place target e ls p k n le =
     ends-assign_to t calls h (target_local target) target _ (λ p k n le.
     within-value t calls h e ls p k n le) ls p k n le
 ends-assigns t calls h (assign.Update op) place target e ls p k n le =
-    ends-update t calls h (target_local target) target (update_binary op) place _ (λ p k n le.
+    ends-update t calls h (target_local target) target (update_binary op)
+    (sides_type t (scopes_of ls) (update_binary op) target e) place _ (λ p k n le.
     within-value t calls h e ls p k n le) ls p k n le
 
 ends-steps : (t : Tables) (calls : Calls) (h : CallsWithin calls) (op : StepOp) (place : ℕ)
     (target : ExprTree) (ls : List Local) (p : PoolMap) (k n : ℕ)
     → k ≤ n → Ends n (steps t calls op place target ls p k)
 ends-steps t calls h step.Up place target ls p k n le =
-    ends-update t calls h (target_local target) target binary.Add place _ (λ p k n le. le) ls p
-    k n le
+    ends-update t calls h (target_local target) target binary.Add Signed place _
+    (λ p k n le. le) ls p k n le
 ends-steps t calls h step.Down place target ls p k n le =
-    ends-update t calls h (target_local target) target binary.Sub place _ (λ p k n le. le) ls p
-    k n le
+    ends-update t calls h (target_local target) target binary.Sub Signed place _
+    (λ p k n le. le) ls p k n le
 
 ends-simple : (t : Tables) (calls : Calls) (h : CallsWithin calls) (x : SimpleTree)
     (ls : List Local) (p : PoolMap) (k n : ℕ)

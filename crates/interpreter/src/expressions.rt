@@ -19,8 +19,8 @@ use crate::operators::{binary, unary};
 use crate::run::Run;
 use crate::work::{ExprTask, WordTask, Work};
 use c_meaning::TrapAt;
-use c_tree::expr::{Argument, BinaryOp, Expr, Name, UnaryOp};
-use c_types::Program;
+use c_tree::expr::{Argument, BinaryOp, Expr, IntType, Name, UnaryOp};
+use c_types::{Program, sides_type};
 use pool_map::TrapKind;
 use std::alloc::AllocError;
 
@@ -55,7 +55,10 @@ impl<'a> Run<'a> {
                 place,
                 left,
                 right,
-            } => self.plan_binary(*op, *place, left, right),
+            } => {
+                let int = sides_type(program, self.top.scopes(), *op, left, right);
+                self.plan_binary(*op, int, *place, left, right)
+            }
             Expr::Conditional {
                 condition,
                 left,
@@ -72,13 +75,14 @@ impl<'a> Run<'a> {
     fn plan_binary(
         &mut self,
         op: BinaryOp,
+        int: IntType,
         place: u64,
         left: &'a Expr,
         right: &'a Expr,
     ) -> Result<(), AllocError>
         ensures { (t : Tables) → OnOk result
             (resumed t self.new ≡ resumed_with t self.old
-            (binary_means op place (value_of t (calls t self.old.below) (expr_of left.now)
+            (binary_means op int place (value_of t (calls t self.old.below) (expr_of left.now)
             self.old.top self.old.pool self.old.ticks) (λ p k.
             value_of t (calls t self.old.below) (expr_of right.now) self.old.top p k))) }
     {
@@ -92,7 +96,7 @@ impl<'a> Run<'a> {
                 self.plan_expr(ExprTask::Eval, left)
             }
             _ => {
-                self.plan(Work::Word(WordTask::Binary(op, place)))?;
+                self.plan(Work::Word(WordTask::Binary(op, int, place)))?;
                 self.plan_expr(ExprTask::Eval, right)?;
                 self.plan_expr(ExprTask::Eval, left)
             }
@@ -156,14 +160,14 @@ impl<'a> Run<'a> {
 
     /// Replaces the last two values by that of a binary operator on them. A zero divisor is the
     /// trap of the place.
-    pub fn binary(&mut self, op: BinaryOp, place: u64) -> Result<(), Fault>
+    pub fn binary(&mut self, op: BinaryOp, int: IntType, place: u64) -> Result<(), Fault>
         ensures quiet { Quiet result }
-        ensures does { (t : Tables) → StepLeads t (todo.Word (word_task.Binary op place)) self.old
-            result self.new }
+        ensures does { (t : Tables) → StepLeads t (todo.Word (word_task.Binary op int place))
+            self.old result self.new }
     {
         let right = self.take();
         let left = self.take();
-        match binary(op, left, right) {
+        match binary(op, int, left, right) {
             None => Err(Fault::Trapped(TrapAt {
                 kind: TrapKind::Divide,
                 place,

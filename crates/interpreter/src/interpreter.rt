@@ -317,7 +317,7 @@ impl<'a> Run<'a> {
         match task {
             WordTask::Put(word) => Ok(self.give(word)?),
             WordTask::Unary(op) => Ok(self.unary(op)?),
-            WordTask::Binary(op, place) => self.binary(op, place),
+            WordTask::Binary(op, int, place) => self.binary(op, int, place),
             WordTask::Truth => Ok(self.truth()?),
             WordTask::Forget => {
                 self.take();

@@ -2,10 +2,11 @@
 
 ghost use Rattle.std.specs.Prelude.{◌≡◌, Some};
 ghost use Rattle.c_tree.specs.declared.expr.BinaryOp.TheVariants as binary;
+ghost use Rattle.c_tree.specs.declared.expr.IntType.TheVariants as int;
 ghost use Rattle.c_meaning.specs.Operators.{unary_of, binary_of};
 
-use c_tree::expr::{BinaryOp, UnaryOp};
-use nvm_base::{BinOp, div, rem, sub};
+use c_tree::expr::{BinaryOp, IntType, UnaryOp};
+use nvm_base::{BinOp, div, rem, sub, udiv, urem};
 
 /// The result of a unary operator on a word.
 #[tactic(auto, using(std::proofs::lemmas::Int::wraps))]
@@ -16,13 +17,39 @@ pub fn unary(op: UnaryOp, a: i64) -> i64
         UnaryOp::Negate => sub(0, a),
         UnaryOp::Not => BinOp::Eq.apply(a, 0),
         UnaryOp::Complement => BinOp::Xor.apply(-1, a),
+        UnaryOp::Cast(_) => a,
     }
 }
 
-/// The result of a binary operator on two words, or `None` if the divisor is 0.
+/// The result of a binary operator on two words as ints of this type; `None` if the divisor is 0.
+pub fn binary(op: BinaryOp, int: IntType, a: i64, b: i64) -> Option<i64>
+    ensures { result ≡ binary_of op int a b }
+{
+    match int {
+        IntType::Signed => signed(op, a, b),
+        IntType::Unsigned => unsigned(op, a, b),
+    }
+}
+
 #[tactic(auto, using(std::proofs::lemmas::Int::wraps))]
-pub fn binary(op: BinaryOp, a: i64, b: i64) -> Option<i64>
-    ensures { result ≡ binary_of op a b }
+fn unsigned(op: BinaryOp, a: i64, b: i64) -> Option<i64>
+    ensures { result ≡ binary_of op int.Unsigned a b }
+{
+    match op {
+        BinaryOp::Div => { if b == 0 { None } else { Some(udiv(a, b)) } }
+        BinaryOp::Rem => { if b == 0 { None } else { Some(urem(a, b)) } }
+        BinaryOp::ShiftRight => Some(BinOp::Ushr.apply(a, b)),
+        BinaryOp::Less => Some(BinOp::Ult.apply(a, b)),
+        BinaryOp::LessEqual => Some(BinOp::Ule.apply(a, b)),
+        BinaryOp::Greater => Some(BinOp::Ult.apply(b, a)),
+        BinaryOp::GreaterEqual => Some(BinOp::Ule.apply(b, a)),
+        _ => signed(op, a, b),
+    }
+}
+
+#[tactic(auto, using(std::proofs::lemmas::Int::wraps))]
+fn signed(op: BinaryOp, a: i64, b: i64) -> Option<i64>
+    ensures { result ≡ binary_of op int.Signed a b }
 {
     match op {
         BinaryOp::Div => { if b == 0 { None } else { Some(div(a, b)) } }
@@ -48,14 +75,14 @@ pub fn binary(op: BinaryOp, a: i64, b: i64) -> Option<i64>
 
 #[tactic(auto, using(std::proofs::lemmas::Int::wraps))]
 fn both(a: i64, b: i64) -> i64
-    ensures { Some result ≡ binary_of binary.Both a b }
+    ensures { Some result ≡ binary_of binary.Both int.Signed a b }
 {
     if a == 0 { 0 } else { BinOp::Ne.apply(b, 0) }
 }
 
 #[tactic(auto, using(std::proofs::lemmas::Int::wraps))]
 fn either(a: i64, b: i64) -> i64
-    ensures { Some result ≡ binary_of binary.Either a b }
+    ensures { Some result ≡ binary_of binary.Either int.Signed a b }
 {
     if a == 0 { BinOp::Ne.apply(b, 0) } else { 1 }
 }

@@ -25,9 +25,9 @@ use crate::places::loop_place;
 use crate::run::Run;
 use crate::work::{ExprTask, Flow, StmtTask, WordTask, Work};
 use c_meaning::TrapAt;
-use c_tree::expr::{BinaryOp, Expr, Name};
+use c_tree::expr::{BinaryOp, Expr, IntType, Name};
 use c_tree::stmt::{AssignOp, Declaration, First, Simple, StepOp, Stmt};
-use c_types::Program;
+use c_types::{Program, sides_type};
 use pool_map::TrapKind;
 use std::alloc::{AllocError, Global};
 use std::mem;
@@ -315,7 +315,7 @@ impl<'a> Run<'a> {
                 place,
                 value,
             } => {
-                self.plan_assign(target, *op, *place, value)?;
+                self.plan_assign(program, target, *op, *place, value)?;
                 Ok(())
             }
             Simple::Step { target, op, place } => {
@@ -341,19 +341,25 @@ impl<'a> Run<'a> {
 
     fn plan_assign(
         &mut self,
+        program: &Program<'a>,
         target: &'a Expr,
         op: AssignOp,
         place: u64,
         value: &'a Expr,
     ) -> Result<(), AllocError>
-        ensures { (t : Tables) → OnOk result
-            (resumed t self.new ≡ with_end t self.old
-            (meaning.assign_end t (calls t self.old.below) op place (expr_of target.now)
+        ensures { OnOk result
+            (resumed (tables_in program.now) self.new ≡ with_end (tables_in program.now) self.old
+            (meaning.assign_end (tables_in program.now)
+            (calls (tables_in program.now) self.old.below) op place (expr_of target.now)
             (expr_of value.now) self.old.top self.old.pool self.old.ticks)) }
     {
         match op {
             AssignOp::Set => self.plan_set(target, value),
-            AssignOp::Update(op) => self.plan_update(target, op.binary(), place, Some(value)),
+            AssignOp::Update(op) => {
+                let op = op.binary();
+                let int = sides_type(program, self.top.scopes(), op, target, value);
+                self.plan_update(target, op, int, place, Some(value))
+            }
         }
     }
 
@@ -364,8 +370,8 @@ impl<'a> Run<'a> {
             self.old.pool self.old.ticks)) }
     {
         match op {
-            StepOp::Up => self.plan_update(target, BinaryOp::Add, place, None),
-            StepOp::Down => self.plan_update(target, BinaryOp::Sub, place, None),
+            StepOp::Up => self.plan_update(target, BinaryOp::Add, IntType::Signed, place, None),
+            StepOp::Down => self.plan_update(target, BinaryOp::Sub, IntType::Signed, place, None),
         }
     }
 
@@ -397,25 +403,26 @@ impl<'a> Run<'a> {
         &mut self,
         target: &'a Expr,
         op: BinaryOp,
+        int: IntType,
         place: u64,
         right: Option<&'a Expr>,
     ) -> Result<(), AllocError>
         ensures { (t : Tables) → OnOk result
             (resumed t self.new ≡ with_end t self.old
             (meaning.update t (calls t self.old.below) (target_local (expr_of target.now))
-            (expr_of target.now) op place (λ p k.
+            (expr_of target.now) op int place (λ p k.
             right_of t (calls t self.old.below) (option_map (λ e. expr_of e.now) right.entry)
             self.old.top p k) self.old.top self.old.pool self.old.ticks)) }
     {
         match local_of(target) {
             Some(name) => {
                 self.plan(Work::Assign(name))?;
-                self.plan_right(op, place, right)?;
+                self.plan_right(op, int, place, right)?;
                 self.plan_expr(ExprTask::Eval, target)
             }
             None => {
                 self.plan_expr(ExprTask::Store, target)?;
-                self.plan_right(op, place, right)?;
+                self.plan_right(op, int, place, right)?;
                 self.plan_expr(ExprTask::Fetch, target)?;
                 self.plan_operands(target)
             }
@@ -426,15 +433,16 @@ impl<'a> Run<'a> {
     fn plan_right(
         &mut self,
         op: BinaryOp,
+        int: IntType,
         place: u64,
         right: Option<&'a Expr>,
     ) -> Result<(), AllocError>
         ensures { OnOk result (self.new
             ≡ planned (option_map_or (λ e. work.Expr expr_task.Eval e) right.entry
             (work.Word (word_task.Put (pos 1))))
-            (planned (work.Word (word_task.Binary op place)) self.old)) }
+            (planned (work.Word (word_task.Binary op int place)) self.old)) }
     {
-        self.plan(Work::Word(WordTask::Binary(op, place)))?;
+        self.plan(Work::Word(WordTask::Binary(op, int, place)))?;
         match right {
             None => self.plan(Work::Word(WordTask::Put(1))),
             Some(right) => self.plan_expr(ExprTask::Eval, right),

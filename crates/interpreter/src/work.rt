@@ -1,7 +1,7 @@
 //! The work list of the interpreter. Its frames are in allocated memory, since a program may have
 //! 256 functions open, each in the middle of a deep expression.
 
-use c_tree::expr::{Argument, BinaryOp, Expr, Name, UnaryOp};
+use c_tree::expr::{Argument, BinaryOp, Expr, IntType, Name, UnaryOp};
 use c_tree::item::Function;
 use c_tree::stmt::{Declaration, Simple, Stmt};
 
@@ -48,9 +48,9 @@ pub enum WordTask {
     Forget,
     /// Pops an operand and pushes the operator's result.
     Unary(UnaryOp),
-    /// Pops the right operand and the left one, and pushes the operator's result; the place is
-    /// that of the operator.
-    Binary(BinaryOp, u64),
+    /// Pops the right operand and the left one, and pushes the operator's result on ints of this
+    /// type; the place is that of the operator.
+    Binary(BinaryOp, IntType, u64),
     /// Pops a word and pushes 0 if it is 0, else 1.
     Truth,
 }

@@ -162,8 +162,8 @@ word_act (word_task.Put v) go vs below ls p k = go (v ∷ vs) below (Next ls p k
 word_act word_task.Forget go vs below ls p k = go (drop 1 vs) below (Next ls p k)
 word_act (word_task.Unary op) go vs below ls p k =
     go (unary_of op (newest vs) ∷ drop 1 vs) below (Next ls p k)
-word_act (word_task.Binary op place) go vs below ls p k = pushed go (drop 1 (drop 1 vs)) below ls
-    (or_trap (binary_of op (newest (drop 1 vs)) (newest vs)) (placed_trap trap.Divide place) p k)
+word_act (word_task.Binary op n place) go vs below ls p k = pushed go (drop 1 (drop 1 vs)) below ls
+    (or_trap (binary_of op n (newest (drop 1 vs)) (newest vs)) (placed_trap trap.Divide place) p k)
 word_act word_task.Truth go vs below ls p k =
     go (at_zero (newest vs) (pos 0) (pos 1) ∷ drop 1 vs) below (Next ls p k)
 

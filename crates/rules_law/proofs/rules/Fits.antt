@@ -3,6 +3,8 @@ use Rattle.std.proofs.Common.{◌≡◌, ℕ, ◌⊎◌, inl, inr, Bool, true, f
 use Rattle.std.specs.Prelude.{◌&&◌, is_some, Option, None, Some, ◌↔◌}
 use Rattle.std.proofs.lemmas.Bool.{false≢true, and_parts}
 use Rattle.nvm_base.proofs.Tests.{same_from}
+use Rattle.c_tree.specs.declared.expr.IntType.{IntType}
+use Rattle.c_tree.specs.declared.expr.IntType.TheVariants.{Signed}
 use Rattle.c_tree.specs.declared.expr.UnaryOp.{UnaryOp}
 use Rattle.c_tree.specs.declared.expr.UnaryOp.TheVariants as unary
 use Rattle.c_tree.specs.declared.expr.BinaryOp.{BinaryOp}
@@ -17,7 +19,8 @@ use Rattle.c_types.specs.Fits.{is_int, is_pointer, is_null, is_pointer_to, type_
 use Rattle.c_types.specs.Fits.{joins_types, applies, assigns}
 use Rattle.c_types.specs.Expressions.{is_indexed}
 use Rattle.rules_law.specs.typed.Types.{StaticType, Number, PointerTo, NullPointer, value_type}
-use Rattle.rules_law.specs.typed.Types.{Applies, Compares, Joins, AreNumbers, AcceptsType}
+use Rattle.rules_law.specs.typed.Types.{Applies, Compares, Joins, IsNumber, AreNumbers}
+use Rattle.rules_law.specs.typed.Types.{AcceptsType}
 use Rattle.rules_law.specs.typed.Statements.{IsAssigned}
 use Rattle.rules_law.proofs.typed.Fitting.{joined_fits, taken_fits}
 use Rattle.rules_law.specs.rules.Given.{MayBe}
@@ -41,12 +44,12 @@ abbrev pub IsOf : (F : StaticType → Type 0) → ValueType → Type 0
 IsOf F a = (x : StaticType) → (a ≡ value_type x) ↔ F x
 
 pub any_not : {C : Type 0} (x : StaticType) → Any ≡ value_type x → C
-any_not Number e = absurd (cc e)
+any_not (Number n) e = absurd (cc e)
 any_not (PointerTo i) e = absurd (cc e)
 any_not NullPointer e = absurd (cc e)
 
 any_by : (a : ValueType) → ((y : StaticType) → a ≡ value_type y → ⊥) → a ≡ Any
-any_by Int none = absurd (none Number refl)
+any_by (Int n) none = absurd (none (Number n) refl)
 any_by (Pointer i) none = absurd (none (PointerTo i) refl)
 any_by Null none = absurd (none NullPointer refl)
 any_by Any none = refl
@@ -62,38 +65,35 @@ may_be F a is x (inl e) = inl ((is x).0 e)
 may_be F a is x (inr e) = inr (λ y h. any_not y (sym e ∙ (is y).1 h))
 
 some_type : (a : ValueType) → (x : StaticType) × CanBe a x
-some_type Int = (Number, inl refl)
+some_type (Int n) = (Number n, inl refl)
 some_type (Pointer i) = (PointerTo i, inl refl)
 some_type Null = (NullPointer, inl refl)
-some_type Any = (Number, inr refl)
+some_type Any = (Number Signed, inr refl)
 
-number_true : (a : ValueType) → CanBe a Number → is_int a ≡ true
-number_true a (inl e) = rw e refl
-number_true a (inr e) = rw e refl
+number_true : (a : ValueType) (x : StaticType) → CanBe a x → IsNumber x → is_int a ≡ true
+number_true a x (inl e) h = rw (e, h.1) refl
+number_true a x (inr e) h = rw e refl
 
-true_number : (a : ValueType) → is_int a ≡ true → CanBe a Number
-true_number Int e = inl refl
+true_number : (a : ValueType) → is_int a ≡ true → (n : IntType) × CanBe a (Number n)
+true_number (Int n) e = (n, inl refl)
 true_number (Pointer i) e = absurd (false≢true e)
 true_number Null e = absurd (false≢true e)
-true_number Any e = inr refl
-
-number_at : (a : ValueType) (x : StaticType) → CanBe a x → x ≡ Number → CanBe a Number
-number_at a x (inl e) is = inl (e ∙ ap value_type is)
-number_at a x (inr e) is = inr e
+true_number Any e = (Signed, inr refl)
 
 pub no_number : (F : StaticType → Type 0) (a : ValueType) → IsOf F a → is_int a ≡ false → NoNumber F
-no_number F a is e m = false≢true (sym e ∙ number_true a (can_be F a is Number m))
+no_number F a is e n m =
+    false≢true (sym e ∙ number_true a (Number n) (can_be F a is (Number n) m) (n, refl))
 
 pub number_no : (F : StaticType → Type 0) (a : ValueType) → IsOf F a → NoNumber F → is_int a ≡ false
-number_no F a is never = failed (is_int a) (CanBe a Number) (true_number a)
-    (λ h. never (may_be F a is Number h))
+number_no F a is never = failed (is_int a) ((n : IntType) × CanBe a (Number n)) (true_number a)
+    (λ h. never h.0 (may_be F a is (Number h.0) h.1))
 
 pointer_true : (a : ValueType) (i : ℕ) → CanBe a (PointerTo i) → is_pointer a ≡ true
 pointer_true a i (inl e) = rw e refl
 pointer_true a i (inr e) = rw e refl
 
 true_pointer : (a : ValueType) → is_pointer a ≡ true → (i : ℕ) × CanBe a (PointerTo i)
-true_pointer Int e = absurd (false≢true e)
+true_pointer (Int n) e = absurd (false≢true e)
 true_pointer (Pointer i) e = (i, inl refl)
 true_pointer Null e = absurd (false≢true e)
 true_pointer Any e = (0, inr refl)
@@ -113,27 +113,21 @@ Pair a b R = (x : StaticType) × (y : StaticType) × CanBe a x × CanBe b y × R
 
 numbers_true : (a b : ValueType) (x y : StaticType) → CanBe a x → CanBe b y → AreNumbers x y
     → (is_int a && is_int b) ≡ true
-numbers_true a b x y m n h = rw (
-  number_true a (number_at a x m h.0),
-  number_true b (number_at b y n h.1),
-) refl
+numbers_true a b x y m n h = rw (number_true a x m h.0, number_true b y n h.1) refl
 
 true_numbers : (a b : ValueType) → (is_int a && is_int b) ≡ true → Pair a b AreNumbers
-true_numbers a b e = (
-  Number,
-  Number,
-  true_number a (and_parts (is_int a) (is_int b) e).0,
-  true_number b (and_parts (is_int a) (is_int b) e).1,
-  (refl, refl),
-)
+true_numbers a b e =
+    let p = true_number a (and_parts (is_int a) (is_int b) e).0 in
+    let q = true_number b (and_parts (is_int a) (is_int b) e).1 in
+    (Number p.0, Number q.0, p.1, q.1, ((p.0, refl), (q.0, refl)))
 
 compares_any : (x : StaticType) → comparable (value_type x) Any ≡ true
-compares_any Number = refl
+compares_any (Number n) = refl
 compares_any (PointerTo i) = refl
 compares_any NullPointer = refl
 
 compares_itself : (x : StaticType) → Compares x x
-compares_itself Number = refl
+compares_itself (Number n) = (n, refl)
 compares_itself (PointerTo i) = inl refl
 compares_itself NullPointer = inl refl
 
@@ -145,16 +139,17 @@ compare_true a b x y (inr e) n h = rw e refl
 
 pointer_pair : (i : ℕ) (b : ValueType) → is_pointer_to i b ≡ true
     → (y : StaticType) × CanBe b y × ((y ≡ PointerTo i) ⊎ (y ≡ NullPointer))
-pointer_pair i Int e = absurd (false≢true e)
+pointer_pair i (Int n) e = absurd (false≢true e)
 pointer_pair i (Pointer j) e = (PointerTo j, inl refl, inl (ap PointerTo (sym (same_from i j e))))
 pointer_pair i Null e = (NullPointer, inl refl, inr refl)
 pointer_pair i Any e = (PointerTo i, inr refl, inl refl)
 
 true_compare : (a b : ValueType) → comparable a b ≡ true → Pair a b Compares
-true_compare Int b e = (Number, Number, inl refl, true_number b e, refl)
+true_compare (Int n) b e =
+    let p = true_number b e in (Number n, Number p.0, inl refl, p.1, (p.0, refl))
 true_compare (Pointer i) b e =
     let p = pointer_pair i b e in (PointerTo i, p.0, inl refl, p.1, p.2)
-true_compare Null Int e = absurd (false≢true e)
+true_compare Null (Int n) e = absurd (false≢true e)
 true_compare Null (Pointer j) e = (NullPointer, PointerTo j, inl refl, inl refl, inr (j, refl))
 true_compare Null Null e = (NullPointer, NullPointer, inl refl, inl refl, inl refl)
 true_compare Null Any e = (NullPointer, NullPointer, inl refl, inr refl, inl refl)
@@ -219,14 +214,19 @@ operands_no op F G a b is same never = failed (joins_types op a b) (Pair a b (Jo
 applies_true : (op : UnaryOp) (a : ValueType) (x : StaticType) → CanBe a x → Applies op x
     → applies op a ≡ true
 applies_true unary.Not a x m h = refl
-applies_true unary.Negate a x m h = number_true a (number_at a x m h)
-applies_true unary.Complement a x m h = number_true a (number_at a x m h)
+applies_true unary.Negate a x m h = number_true a x m h
+applies_true unary.Complement a x m h = number_true a x m h
+applies_true (unary.Cast n) a x m h = number_true a x m h
+
+number_operand : (a : ValueType) → is_int a ≡ true → (x : StaticType) × CanBe a x × IsNumber x
+number_operand a e = let p = true_number a e in (Number p.0, p.1, (p.0, refl))
 
 true_applies : (op : UnaryOp) (a : ValueType) → applies op a ≡ true
     → (x : StaticType) × CanBe a x × Applies op x
 true_applies unary.Not a e = let x = some_type a in (x.0, x.1, tt)
-true_applies unary.Negate a e = (Number, true_number a e, refl)
-true_applies unary.Complement a e = (Number, true_number a e, refl)
+true_applies unary.Negate a e = number_operand a e
+true_applies unary.Complement a e = number_operand a e
+true_applies (unary.Cast n) a e = number_operand a e
 
 pub no_operand : (op : UnaryOp) (F : StaticType → Type 0) (a : ValueType) → IsOf F a
     → applies op a ≡ false → NoOperand op F
@@ -239,7 +239,7 @@ operand_no op F a is never = failed (applies op a)
     (λ h. never h.0 (may_be F a is h.0 h.1) h.2)
 
 takes_any : (x : StaticType) → type_takes (value_type x) Any ≡ true
-takes_any Number = refl
+takes_any (Number n) = refl
 takes_any (PointerTo i) = refl
 takes_any NullPointer = refl
 
@@ -250,7 +250,7 @@ takes_true a b x y (inl e) (inr f) h = rw (e, f) (takes_any x)
 takes_true a b x y (inr e) n h = rw e refl
 
 null_pair : (b : ValueType) → is_null b ≡ true → CanBe b NullPointer
-null_pair Int e = absurd (false≢true e)
+null_pair (Int n) e = absurd (false≢true e)
 null_pair (Pointer i) e = absurd (false≢true e)
 null_pair Null e = inl refl
 null_pair Any e = inr refl
@@ -258,10 +258,12 @@ null_pair Any e = inr refl
 given_pointer : (i : ℕ) (y : StaticType) → (y ≡ PointerTo i) ⊎ (y ≡ NullPointer)
     → AcceptsType (PointerTo i) y
 given_pointer i y (inl e) = inl (sym e)
-given_pointer i y (inr e) = inr (i, refl, e)
+given_pointer i y (inr e) = inr (inr (i, refl, e))
 
 pub true_takes : (a b : ValueType) → type_takes a b ≡ true → Pair a b AcceptsType
-true_takes Int b e = (Number, Number, inl refl, true_number b e, inl refl)
+true_takes (Int n) b e =
+    let p = true_number b e in
+    (Number n, Number p.0, inl refl, p.1, inr (inl ((n, refl), (p.0, refl))))
 true_takes (Pointer i) b e =
     let p = pointer_pair i b e in (PointerTo i, p.0, inl refl, p.1, given_pointer i p.0 p.2)
 true_takes Null b e = (NullPointer, NullPointer, inl refl, null_pair b e, inl refl)
@@ -302,13 +304,13 @@ assignment_no op F G a b is same never = failed (assigns op a b) (Pair a b (IsAs
 -- what stands before `[`
 pub no_array : (k : Kind) → is_indexed k ≡ false → (x : StaticType) × (k ≡ Value (value_type x))
 no_array (Array element place) e = absurd (false≢true (sym e))
-no_array (Value Int) e = (Number, refl)
+no_array (Value (Int n)) e = (Number n, refl)
 no_array (Value (Pointer i)) e = (PointerTo i, refl)
 no_array (Value Null) e = (NullPointer, refl)
 no_array (Value Any) e = absurd (false≢true (sym e))
 
 value_no : (x : StaticType) → is_indexed (Value (value_type x)) ≡ false
-value_no Number = refl
+value_no (Number n) = refl
 value_no (PointerTo i) = refl
 value_no NullPointer = refl
 

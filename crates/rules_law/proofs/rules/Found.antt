@@ -42,7 +42,7 @@ further t b h f = (h.0, f h.0 h.1, h.2)
 
 pub found_type : (t : Tables) (ty : TypeTree) (b : Broken) → IsAmong b (type_broken t ty)
     → Found t b (InType ty)
-found_type t stmt.Int b h = absurd h
+found_type t (stmt.Int n) b h = absurd h
 found_type t (stmt.Pointer name) b h = (part.PointerTo name, at.written, h)
 
 value_from : (t : Tables) (s : List Scope) (e : ExprTree) (b : Broken)

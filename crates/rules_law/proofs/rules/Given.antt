@@ -6,6 +6,9 @@ use Rattle.std.specs.Prelude.{slice_get, Option, None, Some, option_and_then}
 use Rattle.std.specs.Option.{option_map_or}
 use Rattle.std.proofs.lemmas.Bool.{false≢true, and_parts, not-true}
 use Rattle.nvm_base.proofs.Tests.{le_from, same_from}
+use Rattle.c_tree.specs.declared.expr.IntType.{IntType}
+use Rattle.c_tree.specs.declared.expr.UnaryOp.{UnaryOp}
+use Rattle.c_tree.specs.declared.expr.BinaryOp.{BinaryOp}
 use Rattle.c_tree.specs.ExprTree.{ExprTree, Arguments, Ident}
 use Rattle.c_tree.specs.ExprTree as expr
 use Rattle.c_tree.specs.StmtTree.{TypeTree}
@@ -16,45 +19,45 @@ use Rattle.c_types.specs.declared.value_type.ValueType.TheVariants.{Int, Pointer
 use Rattle.c_types.specs.declared.value_type.Kind.{Kind}
 use Rattle.c_types.specs.declared.value_type.Kind.TheVariants.{Value, Array}
 use Rattle.c_types.specs.Fits.{is_any, is_int, type_takes, comparable, common_type, joins_types}
-use Rattle.c_types.specs.Fits.{applies}
+use Rattle.c_types.specs.Fits.{applies, unary_type, binary_type}
 use Rattle.c_types.specs.Tables.{Tables, StructTree, struct_named, function_named, field_named}
 use Rattle.c_types.specs.Tables.{root_struct, words_at, is_length, pointer_type, declared_type}
 use Rattle.c_types.specs.Expressions.{Scope, variable_type, type_of_kind, field_kind}
 use Rattle.c_types.specs.Expressions.{member_kind, arrow_kind, is_indexed, element_of, type_if}
-use Rattle.c_types.specs.Expressions.{may_call, call_type, result_type, parameters_of}
+use Rattle.c_types.specs.Expressions.{may_call, call_type, result_type, parameters_of, number_type}
 use Rattle.c_types.specs.Expressions.{parameter_type, argument_count, kind_of, all_taken, type_of}
 use Rattle.rules_law.specs.typed.Types.{StaticType, Number, PointerTo, NullPointer, value_type}
 use Rattle.rules_law.specs.typed.Types.{IsPointer, IsWritten, HasValueField, HasArray, AcceptsType}
-use Rattle.rules_law.specs.typed.Types.{Unites}
-use Rattle.rules_law.proofs.typed.Fitting.{applied_answer}
+use Rattle.rules_law.specs.typed.Types.{Unites, Applies, Joins, GivesUnary, GivesBinary}
+use Rattle.rules_law.proofs.typed.Fitting.{applied_answer, unary_gives, binary_gives, binary_same}
 use Rattle.rules_law.proofs.typed.Fitting.{joined_answer, united, declared_is}
 use Rattle.rules_law.proofs.typed.Expressions.{IsRest, whole_rest, next_rest, rest_type, suc_zero}
 use Rattle.rules_law.proofs.typed.Expressions.{suc_same}
 use Rattle.rules_law.specs.rules.Given.{Types, GivesArray, AreTaken}
 use Rattle.rules_law.proofs.rules.Fits.{CanBe, IsOf, any_not, may_be, true_takes}
 
-number_is : (x : StaticType) → Int ≡ value_type x → x ≡ Number
-number_is Number e = refl
-number_is (PointerTo i) e = absurd (cc e)
-number_is NullPointer e = absurd (cc e)
+number_is : (n : IntType) (x : StaticType) → Int n ≡ value_type x → x ≡ Number n
+number_is n (Number m) e = cc
+number_is n (PointerTo i) e = absurd (cc e)
+number_is n NullPointer e = absurd (cc e)
 
 null_is : (x : StaticType) → Null ≡ value_type x → x ≡ NullPointer
-null_is Number e = absurd (cc e)
+null_is (Number n) e = absurd (cc e)
 null_is (PointerTo i) e = absurd (cc e)
 null_is NullPointer e = refl
 
 pointed_is : (i : ℕ) (x : StaticType) → Pointer i ≡ value_type x → x ≡ PointerTo i
-pointed_is i Number e = absurd (cc e)
+pointed_is i (Number n) e = absurd (cc e)
 pointed_is i (PointerTo j) e = cc
 pointed_is i NullPointer e = absurd (cc e)
 
 pub same_type : (x y : StaticType) → value_type x ≡ value_type y → y ≡ x
-same_type Number y e = number_is y e
+same_type (Number n) y e = number_is n y e
 same_type (PointerTo i) y e = pointed_is i y e
 same_type NullPointer y e = null_is y e
 
 static_of : (ty : ValueType) → is_any ty ≡ false → (x : StaticType) × (ty ≡ value_type x)
-static_of Int e = (Number, refl)
+static_of (Int n) e = (Number n, refl)
 static_of (Pointer i) e = (PointerTo i, refl)
 static_of Null e = (NullPointer, refl)
 static_of Any e = absurd (false≢true (sym e))
@@ -82,7 +85,7 @@ pointer_of t name x e = by (struct_named t name) refl e
 
 written_of : (t : Tables) (ty : TypeTree) (x : StaticType) → declared_type t ty ≡ value_type x
     → IsWritten t ty x
-written_of t stmt.Int x e = number_is x e
+written_of t (stmt.Int n) x e = number_is n x e
 written_of t (stmt.Pointer name) x e = pointer_of t name.text x e
 
 pub written_is : (t : Tables) (ty : TypeTree) → IsOf (IsWritten t ty) (declared_type t ty)
@@ -181,7 +184,7 @@ arrow_by : (t : Tables) (s : List Scope) (base : ExprTree) (place : ℕ) (name :
     (ty : ValueType) → ((i : ℕ) → ty ≡ Pointer i → Types t s base (PointerTo i))
     → Says (Types t s (expr.Arrow base place name)) (GivesArray t s (expr.Arrow base place name))
     (arrow_kind t ty name)
-arrow_by t s base place name Int g = λ x e. any_not x e
+arrow_by t s base place name (Int n) g = λ x e. any_not x e
 arrow_by t s base place name (Pointer i) g =
     arrow_says t s base place name i (member_kind t i name) (g i refl) (member_says t i name)
 arrow_by t s base place name Null g = λ x e. any_not x e
@@ -198,8 +201,9 @@ element_says : (F A : StaticType → Type 0) (k : Kind) (x : StaticType) → Say
 element_says F A (Array el n) x m e = subst A (same_type x m.0 (sym e ∙ m.1)) m.2
 element_says F A (Value ty) x m e = any_not x e
 
-int_only : (ty : ValueType) → is_int ty ≡ true → is_any ty ≡ false → ty ≡ Int
-int_only Int i a = refl
+int_only : (ty : ValueType) → is_int ty ≡ true → is_any ty ≡ false
+    → (n : IntType) × (ty ≡ Int n)
+int_only (Int n) i a = (n, refl)
 int_only (Pointer n) i a = absurd (false≢true i)
 int_only Null i a = absurd (false≢true i)
 int_only Any i a = absurd (false≢true (sym a))
@@ -227,6 +231,22 @@ united_answer a b y z x is same good e =
     let u = united y z (rw (is, same) at good) in
     let f : common_type (value_type y) (value_type z) ≡ value_type x = rw (is, same) at e in
     subst (Unites y z) (same_type x u.0 (sym f ∙ u.1)) u.2
+
+-- an operator's value
+unary_by : (op : UnaryOp) (a : ValueType) (y x : StaticType) → a ≡ value_type y → Applies op y
+    → unary_type op a ≡ value_type x → GivesUnary op y x
+unary_by op a y x is good e =
+    let g = unary_gives op y good in
+    let f : unary_type op (value_type y) ≡ value_type x = sym (ap (unary_type op) is) ∙ e in
+    subst (GivesUnary op y) (same_type x g.0 (sym f ∙ g.1)) g.2
+
+binary_by : (op : BinaryOp) (a b : ValueType) (y z x : StaticType) → a ≡ value_type y
+    → b ≡ value_type z → Joins op y z → binary_type op a b ≡ value_type x → GivesBinary op y z x
+binary_by op a b y z x is same good e =
+    let g = binary_gives op y z good in
+    let f : binary_type op (value_type y) (value_type z) ≡ value_type x =
+    sym (binary_same op a b y z is same) ∙ e in
+    subst (GivesBinary op y z) (same_type x g.0 (sym f ∙ g.1)) g.2
 
 zero_suc : (n : ℕ) → 0 ≡ suc n → ⊥
 zero_suc n e = cc
@@ -267,7 +287,7 @@ call_by t s name all (Some f) is g x e =
 mutual
   pub says : (t : Tables) (s : List Scope) (e : ExprTree)
       → Says (Types t s e) (GivesArray t s e) (kind_of t s e)
-  says t s (expr.Number n) = λ x e. number_is x e
+  says t s (expr.Number n) = λ x e. number_is (number_type n) x e
   says t s expr.Null = λ x e. null_is x e
   says t s (expr.Variable name) = λ x e. variable_by (variable_type name.text s) x e
   says t s (expr.Root name) = root_by t s name (root_struct t) refl
@@ -284,34 +304,37 @@ mutual
       let int = int_only i indexed.1 (not-true (is_any i) parts.1) in (
         element_says (Types t s base) (GivesArray t s base) (kind_of t s base) x (says t s base)
             k.1,
-        says_type (Types t s index) (GivesArray t s index) (kind_of t s index) Number
-            (says t s index) int,
+        int.0,
+        says_type (Types t s index) (GivesArray t s index) (kind_of t s index) (Number int.0)
+            (says t s index) int.1,
       )
   says t s (expr.Unary op place a) = λ x e.
       let y : ValueType = type_of t s a in
-      let k = kept_of (applies op y && not (is_any y)) Int x e in
+      let k = kept_of (applies op y && not (is_any y)) (unary_type op y) x e in
       let parts = and_parts (applies op y) (not (is_any y)) k.0 in
-      let z = static_of y (not-true (is_any y) parts.1) in (
-        number_is x k.1,
+      let z = static_of y (not-true (is_any y) parts.1) in
+      let good = applied_answer op y z.0 z.1 parts.0 in (
         z.0,
         says_type (Types t s a) (GivesArray t s a) (kind_of t s a) z.0 (says t s a) z.1,
-        applied_answer op y z.0 z.1 (and_parts (applies op y) (not (is_any y)) k.0).0,
+        good,
+        unary_by op y z.0 x z.1 good k.1,
       )
   says t s (expr.Binary op place a b) = λ x e.
       let y : ValueType = type_of t s a in
       let z : ValueType = type_of t s b in
       let one : Bool = joins_types op y z in
       let two : Bool = one && not (is_any y) in
-      let k = kept_of (two && not (is_any z)) Int x e in
+      let k = kept_of (two && not (is_any z)) (binary_type op y z) x e in
       let left = (and_parts two (not (is_any z)) k.0).0 in
       let p = static_of y (not-true (is_any y) (and_parts one (not (is_any y)) left).1) in
-      let q = static_of z (not-true (is_any z) (and_parts two (not (is_any z)) k.0).1) in (
-        number_is x k.1,
+      let q = static_of z (not-true (is_any z) (and_parts two (not (is_any z)) k.0).1) in
+      let good = joined_answer op y z p.0 q.0 p.1 q.1 (and_parts one (not (is_any y)) left).0 in (
         p.0,
         q.0,
         says_type (Types t s a) (GivesArray t s a) (kind_of t s a) p.0 (says t s a) p.1,
         says_type (Types t s b) (GivesArray t s b) (kind_of t s b) q.0 (says t s b) q.1,
-        joined_answer op y z p.0 q.0 p.1 q.1 (and_parts one (not (is_any y)) left).0,
+        good,
+        binary_by op y z p.0 q.0 x p.1 q.1 good k.1,
       )
   says t s (expr.Conditional c place a b) = λ x e.
       let v : ValueType = type_of t s c in

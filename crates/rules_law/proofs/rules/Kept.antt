@@ -16,7 +16,7 @@ use Rattle.c_types.specs.Expressions.{Scope, type_of_kind}
 use Rattle.c_types.specs.Expressions.{parameter_type, argument_count, kind_of, all_taken, type_of}
 use Rattle.rules_law.specs.typed.Types.{StaticType, Number, PointerTo, value_type, IsWritten}
 use Rattle.rules_law.proofs.typed.Fitting.{no_any, applied_fits, joined_fits, united_fits}
-use Rattle.rules_law.proofs.typed.Fitting.{pointer_is}
+use Rattle.rules_law.proofs.typed.Fitting.{pointer_is, unary_answer, binary_answer}
 use Rattle.rules_law.proofs.typed.Fitting.{declared_is}
 use Rattle.rules_law.proofs.typed.Expressions.{IsRest, whole_rest, next_rest, rest_type}
 use Rattle.rules_law.specs.rules.Given.{Types, GivesArray, AreTaken, EndsAt}
@@ -44,18 +44,18 @@ mutual
       rw (given_kind t s base (PointerTo h.0) h.1) (member_is t h.0 name x h.2)
   given_kind t s (expr.Index base place index) x h =
       let a = given_array t s base x h.0 in
-      rw (a.1, given_kind t s index Number h.1) refl
+      rw (a.1, given_kind t s index (Number h.1) h.2) refl
   given_kind t s (expr.Unary op place a) x h =
-      rw (h.0, given_kind t s a h.1 h.2, applied_fits op h.1 h.3, no_any h.1) refl
+      rw (given_kind t s a h.0 h.1, applied_fits op h.0 h.2, no_any h.0)
+      (ap Value (unary_answer op h.0 x h.2 h.3))
   given_kind t s (expr.Binary op place a b) x h =
       rw (
-        h.0,
-        given_kind t s a h.1 h.3,
-        given_kind t s b h.2 h.4,
-        joined_fits op h.1 h.2 h.5,
+        given_kind t s a h.0 h.2,
+        given_kind t s b h.1 h.3,
+        joined_fits op h.0 h.1 h.4,
+        no_any h.0,
         no_any h.1,
-        no_any h.2,
-      ) refl
+      ) (ap Value (binary_answer op h.0 h.1 x h.4 h.5))
   given_kind t s (expr.Conditional c place a b) x h =
       let u = united_fits h.2 h.3 x h.6 in
       rw (

@@ -55,7 +55,7 @@ use Rattle.rules_law.proofs.rules.Kept.{given_kind, given_type, gives_is, given_
 
 arrow_listed : (t : Tables) (place : ℕ) (name : Ident) (ty : ValueType) → is_pointer ty ≡ false
     → IsAmong (Told Mismatch place) (arrow_broken t ty place name)
-arrow_listed t place name answered.Int e = inl refl
+arrow_listed t place name (answered.Int n) e = inl refl
 arrow_listed t place name (answered.Pointer i) e = absurd (false≢true (sym e))
 arrow_listed t place name answered.Null e = inl refl
 arrow_listed t place name answered.Any e = absurd (false≢true (sym e))

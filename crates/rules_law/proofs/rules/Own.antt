@@ -180,7 +180,7 @@ arrow_rows : (t : Tables) (s : List Scope) (base : ExprTree) (place : ℕ) (name
     (b : Broken) (ty : ValueType) → type_of t s base ≡ ty
     → IsAmong b (arrow_broken t ty place name)
     → Breaks t (part.Expression s (expr.Arrow base place name)) b.rule b.place
-arrow_rows t s base place name b answered.Int is h =
+arrow_rows t s base place name b (answered.Int n) is h =
     one_of (Breaks t (part.Expression s (expr.Arrow base place name))) b place Mismatch h
     (row.before_arrow (no_pointer (Types t s base) (type_of t s base) (gives_is t s base)
     (ap is_pointer is)))

@@ -11,28 +11,28 @@ use Rattle.c_tree.specs.ExprTree as expr
 use Rattle.c_tree.specs.StmtTree.{TypeTree}
 use Rattle.c_tree.specs.ItemTree.{FunctionTree, ParameterTree}
 use Rattle.c_types.specs.declared.value_type.ValueType.{ValueType}
-use Rattle.c_types.specs.declared.value_type.ValueType.TheVariants.{Int, Any}
+use Rattle.c_types.specs.declared.value_type.ValueType.TheVariants.{Any}
 use Rattle.c_types.specs.declared.value_type.Kind.{Kind}
 use Rattle.c_types.specs.declared.value_type.Kind.TheVariants.{Value, Array}
 use Rattle.c_types.specs.declared.broken.Broken.{Broken}
 use Rattle.c_types.specs.declared.broken.Rule.TheVariants.{UnknownName, Mismatch, Arity, BadTx}
 use Rattle.c_types.specs.Broken.{broken_at, unless}
 use Rattle.c_types.specs.Fits.{is_any, is_int, type_takes, comparable, common_type, joins_types}
-use Rattle.c_types.specs.Fits.{applies}
+use Rattle.c_types.specs.Fits.{applies, unary_type, binary_type}
 use Rattle.c_types.specs.Tables.{Tables, function_named, root_struct, declared_type}
 use Rattle.c_types.specs.Expressions.{Scope, variable_type, type_of_kind, member, member_kind}
 use Rattle.c_types.specs.Expressions.{with_unindexed, arrow_kind, arrow_broken, is_indexed}
 use Rattle.c_types.specs.Expressions.{element_of, type_if, conditional_type, call_broken, call_type}
-use Rattle.c_types.specs.Expressions.{result_type}
+use Rattle.c_types.specs.Expressions.{result_type, number_type}
 use Rattle.c_types.specs.Expressions.{parameters_of, parameter_type, argument_count, kind_of}
 use Rattle.c_types.specs.Expressions.{all_taken, type_of, broken_in, broken_in_all, value_broken}
 use Rattle.c_types.proofs.Unbroken.{none_left, none_right, some_none, holds}
 use Rattle.rules_law.specs.typed.Types.{StaticType, Number, PointerTo, NullPointer, value_type}
-use Rattle.rules_law.specs.typed.Types.{IsWritten, HasValueField, HasArray}
+use Rattle.rules_law.specs.typed.Types.{IsWritten, HasValueField, HasArray, IsNumber}
 use Rattle.rules_law.specs.typed.Expressions.{HasType, IsArray, ArePassed, IsTyped, IsTypedCall}
 use Rattle.rules_law.specs.typed.Programs.{IsResult}
 use Rattle.rules_law.proofs.typed.Fitting.{no_any, number_only, applied_answer, joined_answer}
-use Rattle.rules_law.proofs.typed.Fitting.{united}
+use Rattle.rules_law.proofs.typed.Fitting.{united, unary_gives, binary_gives, binary_same}
 use Rattle.rules_law.proofs.typed.Fitting.{taken_answer, pointer_written, pointer_is, declared_is}
 use Rattle.rules_law.proofs.typed.Known.{AreKnown, variable_known, AreWritten, IsReady, function_at}
 use Rattle.rules_law.proofs.typed.Known.{Means, member_means}
@@ -44,7 +44,7 @@ value_means F A (Array el place) b m e =
     absurd (some_none place Mismatch (none_right b (broken_at place Mismatch) e))
 
 not_indexed : (x : StaticType) → is_indexed (Value (value_type x)) ≡ true → ⊥
-not_indexed Number e = false≢true e
+not_indexed (Number n) e = false≢true e
 not_indexed (PointerTo i) e = false≢true e
 not_indexed NullPointer e = false≢true e
 
@@ -59,7 +59,7 @@ arrow_means : (t : Tables) (base : StaticType) (place : ℕ) (name : Ident) → 
     → (i : ℕ) × (base ≡ PointerTo i)
     × Means (HasValueField t i name.text) (HasArray t i name.text) (arrow_kind t
     (value_type base) name)
-arrow_means t Number place name ready e = absurd (some_none place Mismatch e)
+arrow_means t (Number n) place name ready e = absurd (some_none place Mismatch e)
 arrow_means t (PointerTo i) place name ready e = (
   i,
   refl,
@@ -186,7 +186,7 @@ value_from t s e means b =
 mutual
   pub kind_means : (t : Tables) (s : List Scope) (e : ExprTree) → IsReady t → AreKnown s
       → broken_in t s e ≡ [] → Means (HasType t s e) (IsArray t s e) (kind_of t s e)
-  kind_means t s (expr.Number n) ready known b = (Number, refl, refl)
+  kind_means t s (expr.Number n) ready known b = (Number (number_type n), refl, refl)
   kind_means t s expr.Null ready known b = (NullPointer, refl, refl)
   kind_means t s (expr.Variable name) ready known b =
       let there : (ty : ValueType)
@@ -229,12 +229,12 @@ mutual
       × HasType t s index x = value_from t s index (kind_means t s index ready known) b2 in
       let int : is_int (type_of t s index) ≡ true =
       (and_parts (is_indexed (kind_of t s base)) _ both).1 in
-      let number : v.0 ≡ Number = number_only v.0 (rw v.1 at int) in
+      let number : IsNumber v.0 = number_only v.0 (rw v.1 at int) in
       let any : is_any (type_of t s index) ≡ false = rw v.1 (no_any v.0) in (
         a.0,
         type_if_is (is_indexed (kind_of t s base) && is_int (type_of t s index))
             (is_any (type_of t s index)) (element_of (kind_of t s base)) a.0 both any a.1,
-        (a.2, rw number at v.2),
+        (a.2, number.0, rw number.1 at v.2),
       )
   kind_means t s (expr.Unary op place a) ready known b =
       let u : value_broken t s a ≡ [] = none_left (value_broken t s a) _ b in
@@ -243,10 +243,13 @@ mutual
       let good : applies op (type_of t s a) ≡ true =
       holds (applies op (type_of t s a)) place Mismatch (none_right
       (value_broken t s a) _ b) in
-      let any : is_any (type_of t s a) ≡ false = rw v.1 (no_any v.0) in (
-        Number,
-        type_if_is (applies op (type_of t s a)) (is_any (type_of t s a)) Int Number good any refl,
-        (refl, v.0, v.2, applied_answer op (type_of t s a) v.0 v.1 good),
+      let any : is_any (type_of t s a) ≡ false = rw v.1 (no_any v.0) in
+      let applied = applied_answer op (type_of t s a) v.0 v.1 good in
+      let g = unary_gives op v.0 applied in (
+        g.0,
+        type_if_is (applies op (type_of t s a)) (is_any (type_of t s a))
+            (unary_type op (type_of t s a)) g.0 good any (ap (unary_type op) v.1 ∙ g.1),
+        (v.0, v.2, applied, g.2),
       )
   kind_means t s (expr.Binary op place x y) ready known b =
       let u : value_broken t s x ≡ [] = none_left (value_broken t s x) _ b in
@@ -260,19 +263,15 @@ mutual
       holds (joins_types op (type_of t s x) (type_of t s y)) place Mismatch (none_right
       (value_broken t s y) _ rest) in
       let any : is_any (type_of t s x) ≡ false = rw l.1 (no_any l.0) in
-      let none : is_any (type_of t s y) ≡ false = rw r.1 (no_any r.0) in (
-        Number,
+      let none : is_any (type_of t s y) ≡ false = rw r.1 (no_any r.0) in
+      let joined = joined_answer op (type_of t s x) (type_of t s y) l.0 r.0 l.1 r.1 good in
+      let g = binary_gives op l.0 r.0 joined in
+      let is = binary_same op (type_of t s x) (type_of t s y) l.0 r.0 l.1 r.1 in (
+        g.0,
         type_if_two (joins_types op (type_of t s x) (type_of t s y)) (is_any (type_of t s x))
-            (is_any (type_of t s y)) Int Number good any none refl,
-        (
-          refl,
-          l.0,
-          r.0,
-          l.2,
-          r.2,
-          joined_answer op
-              (type_of t s x) (type_of t s y) l.0 r.0 l.1 r.1 good,
-        ),
+            (is_any (type_of t s y)) (binary_type op (type_of t s x) (type_of t s y)) g.0 good any
+            none (is ∙ g.1),
+        (l.0, r.0, l.2, r.2, joined, g.2),
       )
   kind_means t s (expr.Conditional c place x y) ready known b =
       let rest = none_right (value_broken t s c) _ b in

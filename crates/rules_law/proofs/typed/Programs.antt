@@ -7,6 +7,7 @@ use Rattle.std.proofs.lemmas.Bool.Decides.{nat_tests}
 use Rattle.std.proofs.lemmas.Option.{none-some, same_Some}
 use Rattle.std.proofs.lemmas.Bool.{false_from_ne_true, false≢true, and_parts, not-true}
 use Rattle.nvm_base.proofs.Tests.{le_from, same_from, same_true, some_of}
+use Rattle.c_tree.specs.declared.expr.IntType.{IntType}
 use Rattle.c_tree.specs.StmtTree.{TypeTree}
 use Rattle.c_tree.specs.StmtTree as stmt
 use Rattle.c_tree.specs.ItemTree.{FieldTree, FunctionTree, LengthTree, ParameterTree}
@@ -191,8 +192,8 @@ parameters_known t s (p ∷ ps) known h =
 
 -- what is a number was written so
 int_only : (t : Tables) (ty : TypeTree) (x : StaticType) → IsWritten t ty x
-    → is_int (declared_type t ty) ≡ true → ty ≡ stmt.Int
-int_only t stmt.Int x h e = refl
+    → is_int (declared_type t ty) ≡ true → (n : IntType) × (ty ≡ stmt.Int n)
+int_only t (stmt.Int n) x h e = (n, refl)
 int_only t (stmt.Pointer name) x h e =
     let is = declared_is t (stmt.Pointer name) x h in
     absurd (false≢true (rw (is, h.is) at e))
@@ -207,9 +208,10 @@ ints_only t (p ∷ ps) h e = (
 )
 
 result_int : (t : Tables) (o : Option TypeTree) → IsResult t o
-    → option_map_or (λ ty. is_int (declared_type t ty)) o false ≡ true → o ≡ Some stmt.Int
+    → option_map_or (λ ty. is_int (declared_type t ty)) o false ≡ true
+    → (n : IntType) × (o ≡ Some (stmt.Int n))
 result_int t None h e = absurd (false≢true e)
-result_int t (Some ty) h e = ap Some (int_only t ty h.0 h.1 e)
+result_int t (Some ty) h e = let i = int_only t ty h.0 h.1 e in (i.0, ap Some i.1)
 
 result_written : (t : Tables) (o : Option TypeTree) → option_map_or (type_broken t) o [] ≡ []
     → IsResult t o
@@ -225,7 +227,8 @@ pub record IsHead (t : Tables) (i : ℕ) (f : FunctionTree) : Type 0 where
   pub few : i < 1024
   pub first : index_of f.name.text (function_names t) ≡ Some i
   pub result : IsResult t f.result_type
-  pub transaction : f.tx ≡ true → (f.result_type ≡ Some stmt.Int) × AreInts f.parameters
+  pub transaction : f.tx ≡ true
+      → ((n : IntType) × (f.result_type ≡ Some (stmt.Int n))) × AreInts f.parameters
   pub parameters : AreParameters t (inner_scopes []) 0 f.parameters
   pub body : body_broken t f ≡ []
 

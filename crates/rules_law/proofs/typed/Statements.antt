@@ -22,7 +22,7 @@ use Rattle.c_types.specs.Statements.{simple_broken, initial_broken, declaration_
 use Rattle.c_types.specs.Statements.{first_broken, return_broken, statement_broken}
 use Rattle.c_types.specs.Statements.{statements_broken}
 use Rattle.c_types.proofs.Unbroken.{none_left, none_right, holds}
-use Rattle.rules_law.specs.typed.Types.{StaticType, Number, PointerTo, value_type}
+use Rattle.rules_law.specs.typed.Types.{StaticType, PointerTo, IsNumber, value_type}
 use Rattle.rules_law.specs.typed.Expressions.{HasType}
 use Rattle.rules_law.specs.typed.Statements.{IsAssignable, IsAssigned, IsSimple, IsInitial}
 use Rattle.rules_law.specs.typed.Statements.{IsDeclared, IsFirst, IsCondition, IsThird, IsReturned}
@@ -91,8 +91,8 @@ simple_is t s (stmt.Step target op place) ready known b =
     let form : is_target target ≡ true =
     holds (is_target target) place NotAssignable (none_right (unless (is_int
     (type_of t s target)) place Mismatch) _ r1) in
-    let number : l.0 ≡ Number = number_only l.0 (rw l.1 at good) in
-    (target_form target form, rw number at l.2)
+    let number : IsNumber l.0 = number_only l.0 (rw l.1 at good) in
+    (target_form target form, number.0, rw number.1 at l.2)
 simple_is t s (stmt.Call name all) ready known b = call_is t s name all ready known b
 simple_is t s (stmt.Free place e) ready known b =
     let b1 = none_left (value_broken t s e) _ b in

@@ -20,6 +20,7 @@ use Rattle.rules_law.specs.typed.Types.{HasArray}
 use Rattle.rules_law.specs.typed.Expressions.{HasType, IsArray, ArePassed, IsTypedCall}
 use Rattle.rules_law.proofs.typed.Broken.{none_both, kept}
 use Rattle.rules_law.proofs.typed.Fitting.{no_any, applied_fits, joined_fits, taken_fits}
+use Rattle.rules_law.proofs.typed.Fitting.{unary_answer, binary_answer}
 use Rattle.rules_law.proofs.typed.Fitting.{united_fits}
 use Rattle.rules_law.proofs.typed.Fitting.{pointer_is, pointer_kept, declared_is}
 use Rattle.rules_law.proofs.typed.Expressions.{IsRest, whole_rest, next_rest, rest_type}
@@ -64,18 +65,18 @@ mutual
       rw (typed_kind t s base (PointerTo h.0) h.1) (member_is t h.0 name x h.2)
   typed_kind t s (expr.Index base place index) x h =
       let a = array_kind t s base x h.0 in
-      rw (a.1, typed_kind t s index Number h.1) refl
+      rw (a.1, typed_kind t s index (Number h.1) h.2) refl
   typed_kind t s (expr.Unary op place a) x h =
-      rw (h.0, typed_kind t s a h.1 h.2, applied_fits op h.1 h.3, no_any h.1) refl
+      rw (typed_kind t s a h.0 h.1, applied_fits op h.0 h.2, no_any h.0)
+      (ap Value (unary_answer op h.0 x h.2 h.3))
   typed_kind t s (expr.Binary op place a b) x h =
       rw (
-        h.0,
-        typed_kind t s a h.1 h.3,
-        typed_kind t s b h.2 h.4,
-        joined_fits op h.1 h.2 h.5,
+        typed_kind t s a h.0 h.2,
+        typed_kind t s b h.1 h.3,
+        joined_fits op h.0 h.1 h.4,
+        no_any h.0,
         no_any h.1,
-        no_any h.2,
-      ) refl
+      ) (ap Value (binary_answer op h.0 h.1 x h.4 h.5))
   typed_kind t s (expr.Conditional c place a b) x h =
       let u = united_fits h.2 h.3 x h.6 in
       rw (
@@ -178,20 +179,20 @@ mutual
   typed_kept t s (expr.Index base place index) x h =
       let a = array_kind t s base x h.0 in
       none_both (broken_in t s base) _ (array_kept t s base x h.0)
-      (none_both (value_broken t s index) _ (used_kept t s index Number h.1
-      (typed_kept t s index Number h.1)) (rw
-      (a.1, typed_is t s index Number h.1) refl))
+      (none_both (value_broken t s index) _ (used_kept t s index (Number h.1) h.2
+      (typed_kept t s index (Number h.1) h.2)) (rw
+      (a.1, typed_is t s index (Number h.1) h.2) refl))
   typed_kept t s (expr.Unary op place a) x h =
-      none_both (value_broken t s a) _ (used_kept t s a h.1 h.2
-      (typed_kept t s a h.1 h.2)) (kept (applies op
-      (type_of t s a)) place Mismatch (rw (typed_is t s a h.1 h.2) (applied_fits op h.1 h.3)))
+      none_both (value_broken t s a) _ (used_kept t s a h.0 h.1
+      (typed_kept t s a h.0 h.1)) (kept (applies op
+      (type_of t s a)) place Mismatch (rw (typed_is t s a h.0 h.1) (applied_fits op h.0 h.2)))
   typed_kept t s (expr.Binary op place a b) x h =
-      none_both (value_broken t s a) _ (used_kept t s a h.1 h.3
-      (typed_kept t s a h.1 h.3))
-      (none_both (value_broken t s b) _ (used_kept t s b h.2 h.4
-      (typed_kept t s b h.2 h.4))
+      none_both (value_broken t s a) _ (used_kept t s a h.0 h.2
+      (typed_kept t s a h.0 h.2))
+      (none_both (value_broken t s b) _ (used_kept t s b h.1 h.3
+      (typed_kept t s b h.1 h.3))
       (kept (joins_types op (type_of t s a) (type_of t s b)) place Mismatch (rw
-      (typed_is t s a h.1 h.3, typed_is t s b h.2 h.4) (joined_fits op h.1 h.2 h.5))))
+      (typed_is t s a h.0 h.2, typed_is t s b h.1 h.3) (joined_fits op h.0 h.1 h.4))))
   typed_kept t s (expr.Conditional c place a b) x h =
       none_both (value_broken t s c) _ (used_kept t s c h.0 h.1 (typed_kept t s c h.0 h.1))
       (none_both (value_broken t s a) _ (used_kept t s a h.2 h.4 (typed_kept t s a h.2 h.4))

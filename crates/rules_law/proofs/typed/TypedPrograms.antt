@@ -6,6 +6,7 @@ use Rattle.std.specs.Option.{option_map_or}
 use Rattle.std.proofs.lemmas.Bool.Decides.{nat_tests}
 use Rattle.std.proofs.lemmas.Bool.{false≢true, not_from_false}
 use Rattle.nvm_base.proofs.Tests.{le_true}
+use Rattle.c_tree.specs.declared.expr.IntType.{IntType}
 use Rattle.c_tree.specs.StmtTree.{TypeTree}
 use Rattle.c_tree.specs.StmtTree as stmt
 use Rattle.c_tree.specs.ItemTree.{FieldTree, FunctionTree, LengthTree, ParameterTree}
@@ -116,12 +117,12 @@ parameters_kept t s i (p ∷ ps) h =
 
 ints_true : (t : Tables) (ps : List ParameterTree) → AreInts ps → all_ints t ps ≡ true
 ints_true t [] h = refl
-ints_true t (p ∷ ps) h = rw (h.0, ints_true t ps h.1) refl
+ints_true t (p ∷ ps) h = rw (h.0.1, ints_true t ps h.1) refl
 
 tx_true : (t : Tables) (f : FunctionTree) (tx : Bool) → (tx ≡ true
-    → (f.result_type ≡ Some stmt.Int) × AreInts f.parameters)
+    → ((n : IntType) × (f.result_type ≡ Some (stmt.Int n))) × AreInts f.parameters)
     → (not tx || is_transaction t f) ≡ true
-tx_true t f true h = rw ((h refl).0, ints_true t f.parameters (h refl).1) refl
+tx_true t f true h = rw ((h refl).0.1, ints_true t f.parameters (h refl).1) refl
 tx_true t f false h = refl
 
 result_kept : (t : Tables) (o : Option TypeTree) → IsResult t o

@@ -72,10 +72,11 @@ simple_kept t s (stmt.Assign target op place e) h =
     (typed_is t s target h.1 h.3, typed_is t s e h.2 h.4) (assigned_fits op h.1 h.2 h.5)))
     (kept (is_target target) place NotAssignable (target_form t s target h.1 h.0 h.3))))
 simple_kept t s (stmt.Step target op place) h =
-    none_both (value_broken t s target) _ (value_kept t s target Number h.1)
+    none_both (value_broken t s target) _ (value_kept t s target (Number h.1) h.2)
     (none_both (unless (is_int (type_of t s target)) place Mismatch) _
-    (kept (is_int (type_of t s target)) place Mismatch (rw (typed_is t s target Number h.1) refl))
-    (kept (is_target target) place NotAssignable (target_form t s target Number h.0 h.1)))
+    (kept (is_int (type_of t s target)) place Mismatch (rw (typed_is t s target
+    (Number h.1) h.2) refl))
+    (kept (is_target target) place NotAssignable (target_form t s target (Number h.1) h.0 h.2)))
 simple_kept t s (stmt.Call name all) h = called_kept t s name all h
 simple_kept t s (stmt.Free place e) h =
     none_both (value_broken t s e) _ (value_kept t s e (PointerTo h.0) h.1)

@@ -3,15 +3,16 @@
 -- These are the rules of specs/typed but for one: an argument for a parameter of a refused type may
 -- have any type.
 use Rattle.std.specs.Prelude.{ℕ, ◌≡◌, ◌⊎◌, List, [], ◌∷◌, Some, false}
+use Rattle.c_tree.specs.declared.expr.IntType.{IntType}
 use Rattle.c_tree.specs.ExprTree.{ExprTree, Arguments}
 use Rattle.c_tree.specs.ExprTree as expr
 use Rattle.c_tree.specs.StmtTree.{TypeTree}
 use Rattle.c_tree.specs.ItemTree.{FunctionTree, ParameterTree}
 use Rattle.c_types.specs.Tables.{Tables, function_named, root_struct}
-use Rattle.c_types.specs.Expressions.{Scope, variable_type}
+use Rattle.c_types.specs.Expressions.{Scope, variable_type, number_type}
 use Rattle.rules_law.specs.typed.Types.{StaticType, Number, PointerTo, NullPointer, value_type}
 use Rattle.rules_law.specs.typed.Types.{IsPointer, IsWritten, HasValueField, HasArray, Applies}
-use Rattle.rules_law.specs.typed.Types.{Joins, AcceptsType, Unites}
+use Rattle.rules_law.specs.typed.Types.{Joins, AcceptsType, Unites, GivesUnary, GivesBinary}
 
 -- Something whose type F says may have the type x: it has, or it has none, since it was refused. So
 -- a rule that no type keeps is broken, and one that some type would keep isn't.
@@ -20,7 +21,7 @@ MayBe F x = F x ⊎ ((y : StaticType) → F y → ⊥)
 
 abbrev mutual
   pub Types : Tables → List Scope → ExprTree → StaticType → Type 0
-  Types t s (expr.Number n) x = x ≡ Number
+  Types t s (expr.Number n) x = x ≡ Number (number_type n)
   Types t s expr.Null x = x ≡ NullPointer
   -- a name that is declared with a type that isn't refused
   Types t s (expr.Variable name) x = variable_type name.text s ≡ Some (value_type x)
@@ -29,12 +30,13 @@ abbrev mutual
   Types t s (expr.New place name) x = IsPointer t name.text x
   Types t s (expr.Arrow base place name) x =
       (i : ℕ) × Types t s base (PointerTo i) × HasValueField t i name.text x
-  Types t s (expr.Index base place index) x = GivesArray t s base x × Types t s index Number
+  Types t s (expr.Index base place index) x = GivesArray t s base x
+      × (n : IntType) × Types t s index (Number n)
   Types t s (expr.Unary op place a) x =
-      (x ≡ Number) × (y : StaticType) × Types t s a y × Applies op y
+      (y : StaticType) × Types t s a y × Applies op y × GivesUnary op y x
   Types t s (expr.Binary op place a b) x =
-      (x ≡ Number) × (y : StaticType) × (z : StaticType) × Types t s a y × Types t s b z
-      × Joins op y z
+      (y : StaticType) × (z : StaticType) × Types t s a y × Types t s b z × Joins op y z
+      × GivesBinary op y z x
   Types t s (expr.Conditional c place a b) x = (u : StaticType) × Types t s c u
       × (y : StaticType) × (z : StaticType) × Types t s a y × Types t s b z × Unites y z x
   Types t s (expr.Call name all) x = (f : FunctionTree) × (ty : TypeTree)

@@ -15,6 +15,7 @@ use Rattle.c_tree.specs.declared.expr.UnaryOp.{UnaryOp}
 use Rattle.c_tree.specs.declared.stmt.AssignOp.{AssignOp}
 use Rattle.c_tree.specs.declared.stmt.StepOp.{StepOp}
 use Rattle.c_types.specs.declared.fault.LimitKind.TheVariants as limit
+use Rattle.c_tree.specs.declared.expr.IntType.{IntType}
 use Rattle.c_types.specs.declared.broken.Rule.{Rule}
 use Rattle.c_types.specs.declared.broken.Rule.TheVariants.{UnknownName, Twice, Mismatch}
 use Rattle.c_types.specs.declared.broken.Rule.TheVariants.{NotAssignable, Arity, TooBig, NoRoot}
@@ -52,7 +53,7 @@ abbrev pub NoGift : (F G : StaticType → Type 0) → Type 0
 NoGift F G = (x y : StaticType) → MayBe F x → MayBe G y → AcceptsType x y → ⊥
 
 abbrev pub NoNumber : (F : StaticType → Type 0) → Type 0
-NoNumber F = MayBe F Number → ⊥
+NoNumber F = (n : IntType) → MayBe F (Number n) → ⊥
 
 -- null isn't a pointer
 abbrev pub NoPointer : (F : StaticType → Type 0) → Type 0
@@ -187,7 +188,7 @@ pub data Breaks (t : Tables) : Part → Rule → (place : ℕ) → Type 0 where
       → Breaks t (part.Parameter s 22 q) (TooBig limit.Parameters 23) q.name.place
   -- 7, no root: nothing declares the root; the end of the text
   no_root : {end : ℕ} → t.roots ≡ [] → Breaks t (part.Whole end) NoRoot end
-  -- 8, bad tx: a `tx` gives no `int64_t`, or a parameter isn't one; the function's name
+  -- 8, bad tx: a `tx` gives no int, or a parameter isn't one; the function's name
   tx_void : {i : ℕ} {f : FunctionTree} → f.tx ≡ true → f.result_type ≡ None
       → Breaks t (part.Function i f) BadTx f.name.place
   tx_result : {i : ℕ} {f : FunctionTree} (ty : TypeTree) → f.tx ≡ true

@@ -1,19 +1,20 @@
 -- The types that expressions have, as rules: an expression has a type where its parts have types
 -- that fit. One that breaks a typing rule has none.
 use Rattle.std.specs.Prelude.{ℕ, ◌≡◌, List, [], ◌∷◌, Some, false}
+use Rattle.c_tree.specs.declared.expr.IntType.{IntType}
 use Rattle.c_tree.specs.ExprTree.{ExprTree, Arguments, Ident}
 use Rattle.c_tree.specs.ExprTree as expr
 use Rattle.c_tree.specs.StmtTree.{TypeTree}
 use Rattle.c_tree.specs.ItemTree.{FunctionTree, ParameterTree}
 use Rattle.c_types.specs.Tables.{Tables, function_named, root_struct}
-use Rattle.c_types.specs.Expressions.{Scope, variable_type}
+use Rattle.c_types.specs.Expressions.{Scope, variable_type, number_type}
 use Rattle.rules_law.specs.typed.Types.{StaticType, Number, PointerTo, NullPointer, value_type}
 use Rattle.rules_law.specs.typed.Types.{IsPointer, IsWritten, HasValueField, HasArray, Applies}
-use Rattle.rules_law.specs.typed.Types.{Joins, AcceptsType, Unites}
+use Rattle.rules_law.specs.typed.Types.{Joins, AcceptsType, Unites, GivesUnary, GivesBinary}
 
 abbrev mutual
   pub HasType : Tables → List Scope → ExprTree → StaticType → Type 0
-  HasType t s (expr.Number n) x = x ≡ Number
+  HasType t s (expr.Number n) x = x ≡ Number (number_type n)
   HasType t s expr.Null x = x ≡ NullPointer
   HasType t s (expr.Variable name) x = variable_type name.text s ≡ Some (value_type x)
   HasType t s (expr.Root name) x =
@@ -23,12 +24,13 @@ abbrev mutual
   HasType t s (expr.Arrow base place name) x =
       (i : ℕ) × HasType t s base (PointerTo i) × HasValueField t i name.text x
   -- what stands before `[` is an array, and the index a number
-  HasType t s (expr.Index base place index) x = IsArray t s base x × HasType t s index Number
+  HasType t s (expr.Index base place index) x = IsArray t s base x
+      × (n : IntType) × HasType t s index (Number n)
   HasType t s (expr.Unary op place a) x =
-      (x ≡ Number) × (y : StaticType) × HasType t s a y × Applies op y
+      (y : StaticType) × HasType t s a y × Applies op y × GivesUnary op y x
   HasType t s (expr.Binary op place a b) x =
-      (x ≡ Number) × (y : StaticType) × (z : StaticType) × HasType t s a y × HasType t s b z
-      × Joins op y z
+      (y : StaticType) × (z : StaticType) × HasType t s a y × HasType t s b z × Joins op y z
+      × GivesBinary op y z x
   -- the condition may have any type
   HasType t s (expr.Conditional c place a b) x = (u : StaticType) × HasType t s c u
       × (y : StaticType) × (z : StaticType) × HasType t s a y × HasType t s b z × Unites y z x

@@ -1,6 +1,7 @@
 -- Programs that are well typed, as rules, row by row of the table of typing rules.
 use Rattle.std.specs.Prelude.{ℕ, ◌≡◌, ◌+◌, ◌<◌, ◌≤◌, List, [], ◌∷◌, Option, None, Some, true, false}
 use Rattle.std.specs.Prelude.{slice_get}
+use Rattle.c_tree.specs.declared.expr.IntType.{IntType}
 use Rattle.c_tree.specs.StmtTree.{TypeTree}
 use Rattle.c_tree.specs.StmtTree as stmt
 use Rattle.c_tree.specs.ItemTree.{FieldTree, FunctionTree, LengthTree, ParameterTree}
@@ -43,7 +44,7 @@ AreParameters t s i (p ∷ ps) = ((x : StaticType) × IsWritten t p.ty x) × (i 
 
 abbrev pub AreInts : List ParameterTree → Type 0
 AreInts [] = Unit {0}
-AreInts (p ∷ ps) = (p.ty ≡ stmt.Int) × AreInts ps
+AreInts (p ∷ ps) = ((n : IntType) × (p.ty ≡ stmt.Int n)) × AreInts ps
 
 abbrev pub IsResult : Tables → Option TypeTree → Type 0
 IsResult t None = Unit {0}
@@ -56,7 +57,8 @@ pub record IsTypedFunction (t : Tables) (i : ℕ) (f : FunctionTree) : Type 0 wh
   pub few : i < 1024
   pub first : index_of f.name.text (function_names t) ≡ Some i
   pub result : IsResult t f.result_type
-  pub transaction : f.tx ≡ true → (f.result_type ≡ Some stmt.Int) × AreInts f.parameters
+  pub transaction : f.tx ≡ true
+      → ((n : IntType) × (f.result_type ≡ Some (stmt.Int n))) × AreInts f.parameters
   pub looks : f.mark ≡ mark.Const → Stores t f → ⊥
   pub parameters : AreParameters t (inner_scopes []) 0 f.parameters
   pub body : AreStatements t f.result_type

@@ -2,6 +2,7 @@
 -- The scopes after a statement are those of c_types: a declaration adds its name to the innermost.
 use Rattle.std.specs.Prelude.{ℕ, ◌≡◌, List, Option, None, Some, false}
 use Rattle.std.specs.Option.{option_map_or}
+use Rattle.c_tree.specs.declared.expr.IntType.{IntType}
 use Rattle.c_tree.specs.ExprTree.{ExprTree}
 use Rattle.c_tree.specs.ExprTree as expr
 use Rattle.c_tree.specs.StmtTree.{StmtTree, Statements, SimpleTree, FirstTree, TypeTree}
@@ -13,6 +14,7 @@ use Rattle.c_types.specs.Tables.{Tables}
 use Rattle.c_types.specs.Expressions.{Scope}
 use Rattle.c_types.specs.Statements.{inner_scopes, is_declared, scopes_after, scopes_after_first}
 use Rattle.rules_law.specs.typed.Types.{StaticType, Number, PointerTo, IsWritten, AcceptsType}
+use Rattle.rules_law.specs.typed.Types.{AreNumbers}
 use Rattle.rules_law.specs.typed.Expressions.{HasType, IsTyped, IsTypedCall}
 
 -- a variable, a field, or an element: an index that has a type stands on an array field
@@ -32,13 +34,14 @@ IsAssignable (expr.Conditional c place a b) = ⊥
 -- `=` gives what the target takes; the operators that update join two numbers
 abbrev pub IsAssigned : AssignOp → StaticType → StaticType → Type 0
 IsAssigned assign.Set x y = AcceptsType x y
-IsAssigned (assign.Update op) x y = (x ≡ Number) × (y ≡ Number)
+IsAssigned (assign.Update op) x y = AreNumbers x y
 
 abbrev pub IsSimple : Tables → List Scope → SimpleTree → Type 0
 IsSimple t s (stmt.Assign target op place e) = IsAssignable target
     × (x : StaticType) × (y : StaticType) × HasType t s target x × HasType t s e y
     × IsAssigned op x y
-IsSimple t s (stmt.Step target op place) = IsAssignable target × HasType t s target Number
+IsSimple t s (stmt.Step target op place) = IsAssignable target
+    × (n : IntType) × HasType t s target (Number n)
 IsSimple t s (stmt.Call name all) = IsTypedCall t s name all
 IsSimple t s (stmt.Free place e) = (i : ℕ) × HasType t s e (PointerTo i)
 IsSimple t s (stmt.Abort place) = Unit {0}

@@ -32,6 +32,16 @@ returns-in-Index c = let t = tables_in c.args.program.now in let s = c.args.self
     (expr_of c.in-Index.index.value) s.top s.pool s.ticks)))
 
 pub returns-in-Binary : goal.returns-in-Binary
-returns-in-Binary c = then_ok c.plan_binary.result
-    (c.plan_binary.ensures (tables_in c.args.program.now))
-    (λ is. is ∙ rw (c.in-Binary.is, c.deref-in-Binary.ensures, c.deref-in-Binary-2.ensures) refl)
+returns-in-Binary c =
+    let top = ap (λ s. s.top) c.self-in-Binary.view_is in
+    then_ok c.plan_binary.result (c.plan_binary.ensures (tables_in c.args.program.now))
+    (λ is. is ∙ rw (
+      c.in-Binary.is,
+      c.sides_type-int.ensures,
+      c.scopes.ensures,
+      top,
+      c.deref-in-Binary.ensures,
+      c.deref-in-Binary-2.ensures,
+      c.deref-in-Binary-3.ensures,
+      c.deref-in-Binary-4.ensures,
+    ) refl)

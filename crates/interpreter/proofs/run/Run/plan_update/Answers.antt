@@ -18,7 +18,7 @@ returns-in_ok-plan_right-in-Some c = λ t.
       right-work c.args.right (λ e. expr_of e.now) (λ e. work.Expr expr_task.Eval e) (λ e. refl),
     )
     (update-local t s (expr_of c.args.target.now) c.in-Some.name.now.text (right_todo right)
-    c.args.op c.args.place (λ p k. right_of t (calls t s.below) right s.top p k)
+    c.args.op c.args.int c.args.place (λ p k. right_of t (calls t s.below) right s.top p k)
     (sym c.in-Some.ensures) (right-then t s right)))
 
 pub returns-in_ok-plan_expr-in-None-2 : goal.returns-in_ok-plan_expr-in-None-2
@@ -34,6 +34,6 @@ returns-in_ok-plan_expr-in-None-2 c = λ t.
       right-work c.args.right (λ e. expr_of e.now) (λ e. work.Expr expr_task.Eval e) (λ e. refl),
     )
     (update-field t s (expr_of c.args.target.now) (right_todo right) c.args.op
-    c.args.place
+    c.args.int c.args.place
     (λ p k. right_of t (calls t s.below) right s.top p k)
     (sym c.in-None.ensures) (right-then t s right)))
