@@ -9,7 +9,8 @@ use Rattle.std.specs.Option.{option_map_or}
 use Rattle.std.specs.Fmt.{decimal, signed_decimal}
 use Rattle.nvm_base.specs.declared.op.BinOp.{BinOp}
 use Rattle.nvm_base.specs.declared.op.BinOp.TheVariants.{Add, Sub, Mul, Div, Rem, Shl, Shr, And, Or}
-use Rattle.nvm_base.specs.declared.op.BinOp.TheVariants.{Xor, Lt, Le, Eq, Ne, Ult}
+use Rattle.nvm_base.specs.declared.op.BinOp.TheVariants.{Xor, Lt, Le, Eq, Ne, Ult, Ule, Udiv}
+use Rattle.nvm_base.specs.declared.op.BinOp.TheVariants.{Urem, Ushr}
 use Rattle.pool_map.specs.declared.shapes.Shapes.{Shapes}
 use Rattle.pool_map.specs.Trap.{trap_name}
 use Rattle.c_tree.specs.ItemTree.{FunctionTree}
@@ -43,7 +44,7 @@ target_text shapes (Field base kind field index) =
     codes "r" ++ (decimal base ++ (codes ":" ++ (struct_name shapes kind
     ++ (codes "." ++ (field_of_struct shapes kind field ++ index_text index)))))
 
--- the operator as C spells it, and `<u` for unsigned numbers
+-- the operator as C spells it, and a `u` after it if it takes its sides as unsigned numbers
 abbrev pub operator_text : BinOp → List ℕ
 operator_text Add = codes "+"
 operator_text Sub = codes "-"
@@ -60,6 +61,10 @@ operator_text Le = codes "<="
 operator_text Eq = codes "=="
 operator_text Ne = codes "!="
 operator_text Ult = codes "<u"
+operator_text Ule = codes "<=u"
+operator_text Udiv = codes "/u"
+operator_text Urem = codes "%u"
+operator_text Ushr = codes ">>u"
 
 abbrev pub logged_or_plain : Bool → List ℕ
 logged_or_plain true = codes "log"

@@ -68,7 +68,7 @@ pub(crate) fn push_target(
     }
 }
 
-/// The operator, as C spells it. The comparison of unsigned numbers is `<u`.
+/// The operator, as C spells it, and a `u` after it if it takes its sides as unsigned numbers.
 pub(crate) fn operator_text(op: BinOp) -> &'static str
     ensures { result.now ≡ operator_text op }
 {
@@ -88,6 +88,10 @@ pub(crate) fn operator_text(op: BinOp) -> &'static str
         BinOp::Eq => "==",
         BinOp::Ne => "!=",
         BinOp::Ult => "<u",
+        BinOp::Ule => "<=u",
+        BinOp::Udiv => "/u",
+        BinOp::Urem => "%u",
+        BinOp::Ushr => ">>u",
     }
 }
 

@@ -27,6 +27,7 @@ fn fields(alloc: Global, list: &[(&str, Option<u64>)]) -> Result<FieldShapes, Al
     for (name, length) in list {
         fields.push(FieldShape {
             name: text_of(alloc, name)?,
+            unsigned: false,
             length: *length,
         })?;
     }

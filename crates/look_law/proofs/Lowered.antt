@@ -9,12 +9,14 @@ use Rattle.std.proofs.lemmas.List.{length-map}
 use Rattle.std.proofs.lemmas.Option.{none-some, same_Some, slice_get-map}
 use Rattle.nvm_base.specs.declared.op.BinOp.{BinOp}
 use Rattle.c_tree.specs.declared.stmt.AssignOp.TheVariants as assign
+use Rattle.c_tree.specs.Operators.{update_binary}
 use Rattle.c_tree.specs.ExprTree as expr
 use Rattle.c_tree.specs.ExprTree.{ExprTree, Ident}
 use Rattle.c_tree.specs.StmtTree as stmt
 use Rattle.c_tree.specs.StmtTree.{StmtTree, Statements, SimpleTree, FirstTree, InitialTree}
 use Rattle.c_tree.specs.ItemTree.{FunctionTree, ParameterTree}
 use Rattle.c_tree.specs.Program.{Program, tree_of}
+use Rattle.c_types.specs.Expressions.{sides_type}
 use Rattle.c_types.specs.Tables.{Tables, tables_of}
 use Rattle.c_types.specs.Looking.{is_variable, exp_stores, value_stores, simple_stores}
 use Rattle.c_types.specs.Looking.{first_stores, head_stores, statement_stores}
@@ -22,6 +24,7 @@ use Rattle.c_types.specs.Looking.{statements_store, next_known}
 use Rattle.ir.specs.declared.instruction.Instruction.TheVariants.{Copy}
 use Rattle.ir.specs.declared.function.IrFunction.{IrFunction}
 use Rattle.lower.specs.Assigned.{is_assigned}
+use Rattle.lower.specs.Forms.{operation_of}
 use Rattle.lower.specs.Names.{Variables, nowhere, inner_variables, variable_of}
 use Rattle.lower.specs.Lowers.{Context, exp_end, exp_code, or_end, or_code, set_code, update_code}
 use Rattle.lower.specs.Lowers.{update_operation, step_operation, simple_code, initial_code}
@@ -82,7 +85,9 @@ simple_looks k known v (stmt.Assign target assign.Set place value) p few h =
     set_looks k known v target place value p few parts.0 parts.1
 simple_looks k known v (stmt.Assign target (assign.Update o) place value) p few h =
     let parts = or_parts (not (is_variable target)) (exp_stores k.tables known value) h in
-    update_looks k known v target place (update_operation o) (Some value) p few parts.0 parts.1
+    update_looks k known v target place
+    (operation_of (sides_type k.tables v.scopes (update_binary o) target value)
+    (update_operation o)) (Some value) p few parts.0 parts.1
 simple_looks k known v (stmt.Step target o place) p few h =
     update_looks k known v target place (step_operation o) None p few h refl
 simple_looks k known v (stmt.Call name all) p few h =

@@ -7,15 +7,17 @@ use Rattle.std.proofs.Math.Nat.{min-eq_left, min-eq_right}
 use Rattle.std.proofs.lemmas.Bool.{or_parts, cases_lt}
 use Rattle.std.proofs.lemmas.Option.{slice_get_past}
 use Rattle.nvm_base.proofs.Lists.{all_append}
+use Rattle.c_tree.specs.declared.expr.IntType.{IntType}
 use Rattle.c_tree.specs.declared.expr.UnaryOp.TheVariants as unary
 use Rattle.c_tree.specs.ExprTree as expr
 use Rattle.c_tree.specs.ExprTree.{ExprTree, Arguments}
 use Rattle.c_types.specs.Tables.{Tables, index_of, function_names}
 use Rattle.c_types.specs.Looking.{is_known, exp_stores, arguments_store}
+use Rattle.c_types.specs.Expressions.{sides_type}
 use Rattle.ir.specs.declared.instruction.Instruction.{Instruction}
 use Rattle.lower.specs.declared.form.Form.{Form}
 use Rattle.lower.specs.declared.form.Form.TheVariants.{Both, Either, Direct, Exchanged}
-use Rattle.lower.specs.Forms.{form_of}
+use Rattle.lower.specs.Forms.{form_of, typed_form}
 use Rattle.lower.specs.Names.{Variables, nowhere, found_number, function_number}
 use Rattle.lower.specs.Lowers.{Context, exp_end, exp_code, reg_of, target_end, target_code}
 use Rattle.lower.specs.Lowers.{arguments_code, form_code}
@@ -102,11 +104,13 @@ mutual
   )
   exp_looks k known v (expr.Unary unary.Not place x) p few h =
       both_look known (exp_code k v x p) _ (exp_looks k known v x p few h) (refl, (refl, tt))
+  exp_looks k known v (expr.Unary (unary.Cast n) place x) p few h = exp_looks k known v x p few h
   exp_looks k known v (expr.Binary o place x y) p few h =
       let q : ℕ = exp_end x p in
+      let form : Form = typed_form (sides_type k.tables v.scopes o x y) (form_of o) in
       let parts = or_parts (exp_stores k.tables known x) (exp_stores k.tables known y) h in
       both_look known (exp_code k v x p) _ (exp_looks k known v x p few parts.0)
-      (form_looks known (form_of o) k.node (exp_code k v y) (exp_end y) (reg_of k v y)
+      (form_looks known form k.node (exp_code k v y) (exp_end y) (reg_of k v y)
       (reg_of k v x q) q (λ z. exp_looks k known v y z few parts.1))
   exp_looks k known v (expr.Conditional c place x y) p few h =
       let p1 : ℕ = exp_end c p in

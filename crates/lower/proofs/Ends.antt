@@ -1,5 +1,6 @@
 -- Code doesn't end before it begins.
-use Rattle.std.proofs.Common.{ℕ, suc, ◌≤◌, arith}
+use Rattle.std.proofs.Common.{◌≡◌, ℕ, suc, ◌≤◌, refl, arith}
+use Rattle.c_tree.specs.declared.expr.IntType.{IntType}
 use Rattle.std.specs.Prelude.{Option, None, Some}
 use Rattle.c_tree.specs.declared.expr.UnaryOp.TheVariants as unary
 use Rattle.c_tree.specs.declared.stmt.AssignOp.TheVariants as assign
@@ -9,7 +10,7 @@ use Rattle.c_tree.specs.StmtTree as stmt
 use Rattle.c_tree.specs.StmtTree.{StmtTree, Statements, SimpleTree, FirstTree, InitialTree}
 use Rattle.lower.specs.declared.form.Form.{Form}
 use Rattle.lower.specs.declared.form.Form.TheVariants.{Both, Either, Direct, Exchanged}
-use Rattle.lower.specs.Forms.{form_of}
+use Rattle.lower.specs.Forms.{form_of, typed_form}
 use Rattle.lower.specs.Names.{variable_of}
 use Rattle.lower.specs.Lowers.{exp_end, target_end, arguments_end, form_end, or_end, set_end}
 use Rattle.lower.specs.Lowers.{update_end, simple_end, initial_end, first_end, third_end, stmt_end}
@@ -21,6 +22,14 @@ form_end_le Both right p le = omega (arith, le (suc p))
 form_end_le Either right p le = omega (arith, le (suc (suc p)))
 form_end_le (Direct o) right p le = omega (arith, le p)
 form_end_le (Exchanged o) right p le = omega (arith, le p)
+
+-- the type of ints makes no difference to the end
+pub form_end_typed : (n : IntType) (f : Form) (right : ℕ → ℕ) (p : ℕ)
+    → form_end (typed_form n f) right p ≡ form_end f right p
+form_end_typed n Both right p = refl
+form_end_typed n Either right p = refl
+form_end_typed n (Direct o) right p = refl
+form_end_typed n (Exchanged o) right p = refl
 
 mutual
   pub exp_end_le : (e : ExprTree) (p : ℕ) → p ≤ exp_end e p
@@ -36,6 +45,7 @@ mutual
   exp_end_le (expr.Unary unary.Negate place a) p = omega (arith, exp_end_le a (suc p))
   exp_end_le (expr.Unary unary.Complement place a) p = omega (arith, exp_end_le a (suc p))
   exp_end_le (expr.Unary unary.Not place a) p = omega (arith, exp_end_le a p)
+  exp_end_le (expr.Unary (unary.Cast n) place a) p = exp_end_le a p
   exp_end_le (expr.Binary o place a b) p =
       omega (
         arith,

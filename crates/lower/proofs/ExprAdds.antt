@@ -6,18 +6,20 @@ use Rattle.std.proofs.lemmas.List.{append-nil}
 use Rattle.std.proofs.Math.Seq.{set-append_seam}
 use Rattle.nvm_base.specs.declared.op.BinOp.{BinOp}
 use Rattle.nvm_base.specs.declared.op.BinOp.TheVariants as op
+use Rattle.c_tree.specs.declared.expr.IntType.{IntType}
 use Rattle.c_tree.specs.declared.expr.UnaryOp.TheVariants as unary
 use Rattle.c_tree.specs.declared.expr.BinaryOp.{BinaryOp}
 use Rattle.c_tree.specs.ExprTree as expr
 use Rattle.c_tree.specs.ExprTree.{ExprTree, Arguments, Ident}
 use Rattle.c_tree.proofs.Trees.{expr_of-Call}
-use Rattle.c_types.specs.Expressions.{type_of}
+use Rattle.c_types.specs.Expressions.{type_of, sides_type}
 use Rattle.ir.specs.declared.instruction.Target.{Target}
 use Rattle.ir.specs.declared.instruction.Instruction.{Instruction}
 use Rattle.ir.specs.declared.instruction.Instruction.TheVariants.{Const, Copy, Bin, Jump, Branch}
 use Rattle.ir.specs.declared.instruction.Instruction.TheVariants.{Load, New, Call, Tick}
+use Rattle.lower.specs.declared.form.Form.{Form}
 use Rattle.lower.specs.declared.form.Form.TheVariants.{Both, Either, Direct, Exchanged}
-use Rattle.lower.specs.Forms.{form_of}
+use Rattle.lower.specs.Forms.{form_of, typed_form}
 use Rattle.c_tree.specs.Program.{source_line}
 use Rattle.lower.specs.Names.{Variables, register_of, kind_named, function_number, field_target}
 use Rattle.lower.specs.Names.{element_target}
@@ -27,6 +29,7 @@ use Rattle.lower.specs.Lowers.{form_end, form_code}
 use Rattle.lower.specs.inside.Added.{Put, ExprAdded, TargetAdded, ReadAdded, ArgumentsAdded}
 use Rattle.lower.specs.inside.Added.{OrAdded, RightAdded, LeftAdded, OtherAdded, FirstConstant}
 use Rattle.lower.specs.inside.Lowers.{left_code, other_end, other_code}
+use Rattle.lower.proofs.Ends.{form_end_typed}
 
 pub one_more : (c c1 : List Instruction) (i : Instruction) → c1 ≡ c ++ i ∷ []
     → length c1 ≡ suc (length c)
@@ -183,6 +186,12 @@ pub complement_added : (k : Context) (v : Variables) (place : ℕ) (a : ExprTree
 complement_added k v place a c c1 r h =
     record { code = h.code; long = h.long; register = h.register }
 
+-- a cast is its operand
+pub cast_added : (k : Context) (v : Variables) (n : IntType) (place : ℕ) (a : ExprTree)
+    (c c1 : List Instruction) (r : ℕ)
+    → ExprAdded k v a c c1 r → ExprAdded k v (expr.Unary (unary.Cast n) place a) c c1 r
+cast_added k v n place a c c1 r h = record { code = h.code; long = h.long; register = h.register }
+
 pub not_added : (k : Context) (v : Variables) (place : ℕ) (a : ExprTree)
     (c c1 c2 c3 : List Instruction) (z x r : ℕ)
     → ExprAdded k v a c c1 x → Put k (λ to. Const to (pos 0)) c1 c2 z
@@ -246,20 +255,26 @@ exchanged_added k v o on b c c1 c2 y r hb ho =
     }
 
 pub binary_added : (k : Context) (v : Variables) (o : BinaryOp) (place : ℕ) (a b : ExprTree)
-    (c c1 c2 : List Instruction) (on r : ℕ)
-    → ExprAdded k v a c c1 on → RightAdded k v (form_of o) on b c1 c2 r
+    (c c1 c2 : List Instruction) (f : Form) (on r : ℕ)
+    → ExprAdded k v a c c1 on → RightAdded k v f on b c1 c2 r
+    → f ≡ typed_form (sides_type k.tables v.scopes o a b) (form_of o)
     → ExprAdded k v (expr.Binary o place a b) c c2 r
-binary_added k v o place a b c c1 c2 on r ha hb =
+binary_added k v o place a b c c1 c2 f on r ha hb is =
     let A : List Instruction = exp_code k v a (length c) in
     let q : ℕ = exp_end a (length c) in
+    let int : IntType = sides_type k.tables v.scopes o a b in
     record {
-      code = seam c c1 c2 A (form_code (form_of o) k.node (exp_code k v b) (exp_end b)
+      code = seam c c1 c2 A (form_code f k.node (exp_code k v b) (exp_end b)
           (reg_of k v b) on (length c1)) ha.code hb.code
-          ∙ ap (λ x. c ++ (A ++ form_code (form_of o) k.node (exp_code k v b) (exp_end b)
+          ∙ ap (λ x. c ++ (A ++ form_code f k.node (exp_code k v b) (exp_end b)
           (reg_of k v b) x (length c1))) (ha.register ∙ ap (reg_of k v a) ha.long)
-          ∙ ap (λ n. c ++ (A ++ form_code (form_of o) k.node (exp_code k v b) (exp_end b)
-          (reg_of k v b) (reg_of k v a q) n)) ha.long;
-      long = hb.long ∙ ap (form_end (form_of o) (exp_end b)) ha.long;
+          ∙ ap (λ n. c ++ (A ++ form_code f k.node (exp_code k v b) (exp_end b)
+          (reg_of k v b) (reg_of k v a q) n)) ha.long
+          ∙ ap (λ g. c ++ (A ++ form_code g k.node (exp_code k v b) (exp_end b)
+          (reg_of k v b) (reg_of k v a q) q)) is;
+      long = hb.long ∙ ap (form_end f (exp_end b)) ha.long
+          ∙ ap (λ g. form_end g (exp_end b) q) is
+          ∙ form_end_typed int (form_of o) (exp_end b) q;
       register = hb.register;
     }
 
@@ -535,6 +550,7 @@ pub ruleset expressions = (
   constant_first,
   negate_added,
   complement_added,
+  cast_added,
   not_added,
   direct_added,
   exchanged_added,

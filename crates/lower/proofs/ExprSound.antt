@@ -9,6 +9,7 @@ use Rattle.std.specs.List.{AllByRecursion}
 use Rattle.std.proofs.lemmas.Option.{slice_get-map, slice_get_within}
 use Rattle.std.proofs.lemmas.Bool.{false≢true, and_parts}
 use Rattle.nvm_base.proofs.Lists.{all_append}
+use Rattle.c_tree.specs.declared.expr.IntType.{IntType}
 use Rattle.c_tree.specs.declared.expr.UnaryOp.TheVariants as unary
 use Rattle.c_tree.specs.ExprTree as expr
 use Rattle.c_tree.specs.ExprTree.{ExprTree, Arguments, Ident}
@@ -27,13 +28,13 @@ use Rattle.c_types.specs.Fits.{is_any, is_int, type_takes}
 use Rattle.c_types.specs.Tables.{Tables, StructTree, index_of, function_names, function_named}
 use Rattle.c_types.specs.Tables.{is_length, declared_type, field_names, is_first}
 use Rattle.c_types.specs.Statements.{type_broken}
-use Rattle.c_types.specs.Shapes.{field_shape, root_fields, shapes_in}
+use Rattle.c_types.specs.Shapes.{field_shape, is_unsigned, root_fields, shapes_in}
 use Rattle.c_types.specs.Declarations.{length_broken, field_broken}
 use Rattle.c_types.specs.Expressions.{Scope, variable_type, with_unindexed, value_broken}
 use Rattle.c_types.specs.Expressions.{field_kind, member, member_kind, member_broken, root_kind}
 use Rattle.c_types.specs.Expressions.{root_broken, arrow_kind, arrow_broken, is_indexed}
 use Rattle.c_types.specs.Expressions.{call_broken, parameters_of, parameter_type, argument_count}
-use Rattle.c_types.specs.Expressions.{kind_of, type_of, broken_in, broken_in_all}
+use Rattle.c_types.specs.Expressions.{kind_of, type_of, sides_type, broken_in, broken_in_all}
 use Rattle.c_types.proofs.Unbroken.{none_left, none_right, holds}
 use Rattle.ir.specs.declared.instruction.Target.{Target}
 use Rattle.ir.specs.declared.instruction.Target.TheVariants.{Root, Field}
@@ -43,14 +44,14 @@ use Rattle.ir.specs.declared.function.Ir.{Ir}
 use Rattle.ir.specs.WellFormed.{IsIndexed, IsTarget, IsKind, TakesArgs, IsInstruction, shape_field}
 use Rattle.lower.specs.declared.form.Form.{Form}
 use Rattle.lower.specs.declared.form.Form.TheVariants.{Both, Either, Direct, Exchanged}
-use Rattle.lower.specs.Forms.{form_of}
+use Rattle.lower.specs.Forms.{form_of, typed_form}
 use Rattle.lower.specs.Names.{Variables, variable_register, found_number, function_number}
 use Rattle.lower.specs.Names.{kind_named, struct_kind_at, field_number, root_target, field_target}
 use Rattle.lower.specs.Names.{element_target}
 use Rattle.lower.specs.Lowers.{Context, exp_end, exp_code, reg_of, target_end, target_code}
 use Rattle.lower.specs.Lowers.{target_of, arguments_end, arguments_code, registers_of, form_end}
 use Rattle.lower.specs.Lowers.{form_code, truth_code}
-use Rattle.lower.proofs.Ends.{exp_end_le, arguments_end_le, form_end_le}
+use Rattle.lower.proofs.Ends.{exp_end_le, arguments_end_le, form_end_le, form_end_typed}
 use Rattle.lower.proofs.Sane.{IsSane, IsFieldOf, IsKindOf, kind_of_struct}
 use Rattle.lower.proofs.GoodTypes.{IsGood, IsGoodKind, Agree, found, found_register, pointer_good}
 use Rattle.lower.proofs.GoodTypes.{member_there, good_any, declared_good, value_good, indexed_array}
@@ -99,6 +100,7 @@ field_fits t r place i names f e = by_length f.len (declared_type t f.ty)
         else Array ty place) l (Value ty))
         (Some (record {
           name = f.name.text;
+          unsigned = is_unsigned f.ty;
           length = option_map (λ l. cast_unsigned w64 l.value) l;
         }))
     by_length None ty g e = refl
@@ -130,7 +132,7 @@ arrow_fits t r (Pointer i) base place name h lt g e =
     (ap (option_and_then (λ (s : StructShape).
     slice_get s.fields (field_number t name.text (Some i)))) kind.shape)
     (member_fits t r i g.0 name h g.1 e)
-arrow_fits t r Int base place name h lt g e = absurd (some_none e)
+arrow_fits t r (Int n) base place name h lt g e = absurd (some_none e)
   where
     some_none : broken_at place Mismatch ≡ [] → ⊥
     some_none e = cc
@@ -176,7 +178,7 @@ index_fits : (shapes : Shapes) (r : ℕ) (t : Tables) (k : Kind) (target : Targe
     → IsTarget shapes r (element_target target q)
 index_fits shapes r t (Array el place) target q g e h lt = h q lt
 index_fits shapes r t (Value Any) target q g e h lt = absurd g
-index_fits shapes r t (Value Int) target q g e h lt = absurd (false≢true e)
+index_fits shapes r t (Value (Int n)) target q g e h lt = absurd (false≢true e)
 index_fits shapes r t (Value Null) target q g e h lt = absurd (false≢true e)
 index_fits shapes r t (Value (Pointer i)) target q g e h lt = absurd (false≢true e)
 
@@ -253,7 +255,12 @@ reg_below k ir r n v (expr.Root name) q h a b lt = h.below q lt
 reg_below k ir r n v (expr.New place name) q h a b lt = h.below q lt
 reg_below k ir r n v (expr.Arrow base place name) q h a b lt = h.below q lt
 reg_below k ir r n v (expr.Index base place index) q h a b lt = h.below q lt
-reg_below k ir r n v (expr.Unary o place x) q h a b lt = h.below q lt
+reg_below k ir r n v (expr.Unary unary.Negate place x) q h a b lt = h.below q lt
+reg_below k ir r n v (expr.Unary unary.Not place x) q h a b lt = h.below q lt
+reg_below k ir r n v (expr.Unary unary.Complement place x) q h a b lt = h.below q lt
+reg_below k ir r n v (expr.Unary (unary.Cast to) place x) q h a b lt =
+    reg_below k ir r n v x q h a (none_left (broken_in k.tables v.scopes x) _
+    (none_left (value_broken k.tables v.scopes x) _ b)) lt
 reg_below k ir r n v (expr.Binary o place x y) q h a b lt = h.below q lt
 reg_below k ir r n v (expr.Conditional c place x y) q h a b lt = h.below q lt
 
@@ -476,10 +483,19 @@ mutual
           tt,
         ),
       )
+  exp_sound k ir r n v (expr.Unary (unary.Cast to) place x) p h a b lt =
+      let u : value_broken k.tables v.scopes x ≡ [] =
+      unary_part k.tables v.scopes x _ (none_left
+      (broken_in k.tables v.scopes (expr.Unary (unary.Cast to) place x)) _ b) in
+      exp_sound k ir r n v x p h a u lt
   exp_sound k ir r n v (expr.Binary o place x y) p h a b lt =
       let t : Tables = k.tables in
       let s : List Scope = v.scopes in
       let q : ℕ = exp_end x p in
+      let int : IntType = sides_type t s o x y in
+      let f : Form = typed_form int (form_of o) in
+      let less : form_end f (exp_end y) q < n =
+      subst (λ (z : ℕ). z < n) (sym (form_end_typed int (form_of o) (exp_end y) q)) lt in
       let own : broken_in t s (expr.Binary o place x y) ≡ [] =
       none_left (broken_in t s (expr.Binary o place x y)) _ b in
       let u : value_broken t s x ≡ [] = unary_part t s x _ own in
@@ -489,11 +505,11 @@ mutual
       form_end_le (form_of o) (exp_end y) q (λ z. exp_end_le y z) in
       all_append (IsInstruction ir r n) (exp_code k v x p) _
       (exp_sound k ir r n v x p h a u (omega (arith, lt, le)))
-      (form_sound k ir r n (form_of o) (exp_code k v y) (exp_end y) (reg_of k v y)
+      (form_sound k ir r n f (exp_code k v y) (exp_end y) (reg_of k v y)
       (reg_of k v x q) q h
       (λ z less. exp_sound k ir r n v y z h a w less) (λ z. exp_end_le y z) (λ z less.
       reg_below k ir r n v y z h a (none_left (broken_in t s y) _ w) less)
-      (reg_below k ir r n v x q h a (none_left (broken_in t s x) _ u) (omega (arith, lt, le))) lt)
+      (reg_below k ir r n v x q h a (none_left (broken_in t s x) _ u) (omega (arith, lt, le))) less)
   exp_sound k ir r n v (expr.Conditional c place x y) p h a b lt =
       let t : Tables = k.tables in
       let s : List Scope = v.scopes in

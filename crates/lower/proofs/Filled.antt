@@ -1,20 +1,23 @@
 -- Code whose holes are filled later is the code written with known places.
 use Rattle.std.proofs.Common.{◌≡◌, ◌≢◌, ℕ, ℤ, pos, suc, ◌<◌, ◌≤◌, Bool, true, false, List, [], ◌∷◌}
-use Rattle.std.proofs.Common.{◌++◌, map, length, refl, ap, arith, ⊎_elim}
+use Rattle.std.proofs.Common.{◌++◌, map, length, refl, sym, ap, subst, arith, ⊎_elim}
 use Rattle.std.specs.Prelude.{nat_eq, if◌then◌else◌, Option, None, Some}
 use Rattle.std.proofs.lemmas.List.{map-append}
 use Rattle.std.proofs.lemmas.Bool.Decides.{eqb_tells}
 use Rattle.nvm_base.specs.declared.op.BinOp.{BinOp}
+use Rattle.c_tree.specs.declared.expr.IntType.{IntType}
 use Rattle.c_tree.specs.declared.expr.UnaryOp.TheVariants as unary
 use Rattle.c_tree.specs.declared.stmt.AssignOp.TheVariants as assign
+use Rattle.c_tree.specs.Operators.{update_binary}
 use Rattle.c_tree.specs.ExprTree as expr
 use Rattle.c_tree.specs.ExprTree.{ExprTree, Arguments, Ident}
 use Rattle.c_tree.specs.StmtTree as stmt
 use Rattle.c_tree.specs.StmtTree.{StmtTree, Statements, SimpleTree, FirstTree, InitialTree}
+use Rattle.c_types.specs.Expressions.{sides_type}
 use Rattle.ir.specs.declared.instruction.Instruction.{Instruction}
 use Rattle.lower.specs.declared.form.Form.{Form}
 use Rattle.lower.specs.declared.form.Form.TheVariants.{Both, Either, Direct, Exchanged}
-use Rattle.lower.specs.Forms.{form_of}
+use Rattle.lower.specs.Forms.{form_of, typed_form, operation_of}
 use Rattle.lower.specs.Names.{Variables, inner_variables, variable_of}
 use Rattle.lower.specs.inside.Holes.{to_place, hole_filled, fill_from}
 use Rattle.lower.specs.Lowers.{Context, exp_end, exp_code, reg_of, target_end, target_code}
@@ -25,6 +28,7 @@ use Rattle.lower.specs.Lowers.{simple_end, simple_code, initial_end, initial_cod
 use Rattle.lower.specs.Lowers.{first_code, third_end, third_code, variables_after}
 use Rattle.lower.specs.Lowers.{variables_after_first, stmt_end, stmt_code, statements_end}
 use Rattle.lower.specs.Lowers.{statements_code}
+use Rattle.lower.proofs.Ends.{form_end_typed}
 use Rattle.lower.proofs.Ends.{form_end_le, exp_end_le, arguments_end_le, or_end_le, third_end_le}
 use Rattle.lower.proofs.Ends.{stmt_end_le, statements_end_le}
 
@@ -105,8 +109,11 @@ mutual
       simp (map-append, exp_filled k v a (suc p) h place (omega arith))
   exp_filled k v (expr.Unary unary.Not at a) p h place lt =
       simp (map-append, exp_filled k v a p h place (omega arith))
+  exp_filled k v (expr.Unary (unary.Cast n) at a) p h place lt = exp_filled k v a p h place lt
   exp_filled k v (expr.Binary o at a b) p h place lt =
-      binary_filled (form_of o) k v a b p h place lt
+      let n : IntType = sides_type k.tables v.scopes o a b in
+      binary_filled (typed_form n (form_of o)) k v a b p h place
+      (subst (λ (x : ℕ). x < h) (sym (form_end_typed n (form_of o) (exp_end b) (exp_end a p))) lt)
       (λ x. exp_filled k v b x h place) (λ less. exp_filled k v a p h place less)
   exp_filled k v (expr.Conditional c at a b) p h place lt =
       let p1 : ℕ = exp_end c p in
@@ -201,7 +208,9 @@ pub simple_filled : (k : Context) (v : Variables) (x : SimpleTree) (p h place : 
 simple_filled k v (stmt.Assign target assign.Set at value) p h place lt =
     set_filled k v (variable_of target) target at value p h place lt
 simple_filled k v (stmt.Assign target (assign.Update o) at value) p h place lt =
-    update_filled k v (variable_of target) target at (update_operation o) (Some value) p h place lt
+    update_filled k v (variable_of target) target at
+    (operation_of (sides_type k.tables v.scopes (update_binary o) target value)
+    (update_operation o)) (Some value) p h place lt
 simple_filled k v (stmt.Step target o at) p h place lt =
     update_filled k v (variable_of target) target at (step_operation o) None p h place lt
 simple_filled k v (stmt.Call name all) p h place lt =

@@ -7,6 +7,8 @@ use Rattle.std.specs.Option.{option_map_or}
 use Rattle.std.proofs.lemmas.Bool.{false≢true, and_parts}
 use Rattle.std.proofs.lemmas.Option.{none-some}
 use Rattle.nvm_base.proofs.Tests.{some_of}
+use Rattle.c_tree.specs.declared.expr.UnaryOp.{UnaryOp}
+use Rattle.c_tree.specs.declared.expr.UnaryOp.TheVariants as unary
 use Rattle.c_tree.specs.ExprTree as expr
 use Rattle.c_tree.specs.ExprTree.{ExprTree, Arguments, Ident}
 use Rattle.c_tree.specs.StmtTree as stmt
@@ -22,7 +24,7 @@ use Rattle.c_types.specs.declared.broken.Rule.TheVariants.{BadTx}
 use Rattle.c_types.specs.declared.fault.LimitKind.TheVariants as limit
 use Rattle.c_types.specs.Broken.{broken_at, unless}
 use Rattle.c_types.specs.Fits.{is_any, is_int, type_takes, comparable, common_type, joins_types}
-use Rattle.c_types.specs.Fits.{applies}
+use Rattle.c_types.specs.Fits.{applies, unary_type}
 use Rattle.c_types.specs.Tables.{Tables, StructTree, index_of, struct_named, function_named}
 use Rattle.c_types.specs.Tables.{field_named, root_struct, is_length, words_of_struct, words_at}
 use Rattle.c_types.specs.Tables.{pointer_type, declared_type, field_names, function_names, is_first}
@@ -43,7 +45,7 @@ use Rattle.lower.proofs.Sane.{IsSane, IsFieldOf, index_of_in, field_of_struct}
 
 -- a type that isn't any; a pointer leads to a struct of at most 15 words
 abbrev pub IsGood : Tables → ValueType → Type 0
-IsGood t Int = Unit {0}
+IsGood t (Int n) = Unit {0}
 IsGood t Null = Unit {0}
 IsGood t Any = ⊥
 IsGood t (Pointer i) = (s : StructTree) × (slice_get t.structs i ≡ Some s)
@@ -54,7 +56,7 @@ IsGoodKind t (Value ty) = IsGood t ty
 IsGoodKind t (Array element place) = IsGood t element
 
 pub good_any : (t : Tables) (ty : ValueType) → IsGood t ty → is_any ty ≡ false
-good_any t Int g = refl
+good_any t (Int n) g = refl
 good_any t Null g = refl
 good_any t Any g = absurd g
 good_any t (Pointer i) g = refl
@@ -182,7 +184,7 @@ pointer_good t name e = pointer_case t name (struct_named t name.text) refl e
 
 pub declared_good : (t : Tables) (ty : TypeTree) → type_broken t ty ≡ []
     → IsGood t (declared_type t ty)
-declared_good t stmt.Int e = tt
+declared_good t (stmt.Int n) e = tt
 declared_good t (stmt.Pointer name) e =
     let h : (i : ℕ) × (s : StructTree) × (struct_named t name.text ≡ Some i)
     × (slice_get t.structs i ≡ Some s) × (nat_le (words_of_struct s) 15 ≡ true)
@@ -234,7 +236,7 @@ value_good t broken (Array element place) g e =
 arrow_good : (t : Tables) (ty : ValueType) (place : ℕ) (name : Ident) → IsSane t → IsGood t ty
     → arrow_broken t ty place name ≡ [] → IsGoodKind t (arrow_kind t ty name)
 arrow_good t (Pointer i) place name h g e = member_good t i g.0 name h g.1 e
-arrow_good t Int place name h g e = absurd (some_none e)
+arrow_good t (Int n) place name h g e = absurd (some_none e)
   where
     some_none : broken_at place Mismatch ≡ [] → ⊥
     some_none e = cc
@@ -249,7 +251,7 @@ pub indexed_array : (t : Tables) (k : Kind) → IsGoodKind t k → is_indexed k 
     → (el : ValueType) × (place : ℕ) × (k ≡ Array el place)
 indexed_array t (Array el place) g e = (el, place, refl)
 indexed_array t (Value Any) g e = absurd g
-indexed_array t (Value Int) g e = absurd (false≢true e)
+indexed_array t (Value (Int n)) g e = absurd (false≢true e)
 indexed_array t (Value Null) g e = absurd (false≢true e)
 indexed_array t (Value (Pointer i)) g e = absurd (false≢true e)
 
@@ -257,7 +259,7 @@ element_good : (t : Tables) (k : Kind) → IsGoodKind t k → is_indexed k ≡ t
     → IsGood t (element_of k)
 element_good t (Array el place) g e = g
 element_good t (Value Any) g e = absurd g
-element_good t (Value Int) g e = absurd (false≢true e)
+element_good t (Value (Int n)) g e = absurd (false≢true e)
 element_good t (Value Null) g e = absurd (false≢true e)
 element_good t (Value (Pointer i)) g e = absurd (false≢true e)
 
@@ -325,9 +327,15 @@ call_good t name (Some f) n place taken h is e all =
 common_good : (t : Tables) (x y : ValueType) → IsGood t x → IsGood t y
     → IsGood t (common_type x y)
 common_good t Null y gx gy = gy
-common_good t Int y gx gy = gx
+common_good t (Int n) y gx gy = gx
 common_good t (Pointer i) y gx gy = gx
 common_good t Any y gx gy = gx
+
+unary_good : (t : Tables) (op : UnaryOp) (x : ValueType) → IsGood t (unary_type op x)
+unary_good t unary.Negate x = tt
+unary_good t unary.Not x = tt
+unary_good t unary.Complement x = tt
+unary_good t (unary.Cast n) x = tt
 
 mutual
   -- an expression that breaks no rule denotes something good
@@ -393,7 +401,7 @@ mutual
       let good : applies op (type_of t s x) ≡ true =
       holds (applies op (type_of t s x)) place Mismatch
       (none_right (with_unindexed (broken_in t s x) (kind_of t s x)) _ b) in
-      rw (good, good_any t (type_of t s x) g) tt
+      rw (good, good_any t (type_of t s x) g) (unary_good t op (type_of t s x))
   kind_good t r v (expr.Binary op place x y) h a b =
       let s : List Scope = v.scopes in
       let rest : with_unindexed (broken_in t s y) (kind_of t s y)

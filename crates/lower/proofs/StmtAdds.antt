@@ -10,7 +10,8 @@ use Rattle.pool_map.specs.declared.trap.TrapKind.TheVariants as trap
 use Rattle.c_tree.specs.declared.stmt.AssignOp.TheVariants as assign
 use Rattle.c_tree.specs.declared.stmt.UpdateOp.{UpdateOp}
 use Rattle.c_tree.specs.declared.stmt.StepOp.{StepOp}
-use Rattle.c_types.specs.Expressions.{type_of}
+use Rattle.c_tree.specs.Operators.{update_binary}
+use Rattle.c_types.specs.Expressions.{type_of, sides_type}
 use Rattle.c_tree.specs.ExprTree as expr
 use Rattle.c_tree.specs.ExprTree.{ExprTree, Arguments, Ident}
 use Rattle.c_tree.specs.StmtTree as stmt
@@ -27,6 +28,7 @@ use Rattle.ir.specs.declared.instruction.Instruction.TheVariants.{Load, Store, F
 use Rattle.ir.specs.declared.instruction.Instruction.TheVariants.{Trap}
 use Rattle.lower.specs.Names.{Variables, inner_variables, variable_declared, register_of}
 use Rattle.lower.specs.Names.{variable_of, struct_kind_at}
+use Rattle.lower.specs.Forms.{operation_of}
 use Rattle.lower.specs.inside.Names.{outer_variables}
 use Rattle.lower.specs.inside.Holes.{leave, third_part, to_place, hole_filled, fill_from}
 use Rattle.lower.specs.Lowers.{Context, exp_end, exp_code, reg_of, target_end, target_code}
@@ -651,11 +653,16 @@ update_target k v target place o value c c1 c2 c3 c4 c5 t l x r is ht hl h ho e 
           ∙ ap (λ n. update_end n target value (length c)) (sym is);
     }
 
-pub update_assign : (k : Context) (v : Variables) (target : ExprTree) (o : UpdateOp) (place : ℕ)
-    (value : ExprTree) (c c1 : List Instruction)
-    → UpdateAdded k v target place (update_operation o) (Some value) c c1
-    → SimpleAdded k v (stmt.Assign target (assign.Update o) place value) c c1
-update_assign k v target o place value c c1 h = record { code = h.code; long = h.long }
+pub update_assign : (k : Context) (v : Variables) (target : ExprTree) (o : UpdateOp) (b : BinOp)
+    (place : ℕ) (value : ExprTree) (c c1 : List Instruction)
+    → UpdateAdded k v target place b (Some value) c c1
+    → b ≡ operation_of (sides_type k.tables v.scopes (update_binary o) target value)
+    (update_operation o) → SimpleAdded k v (stmt.Assign target (assign.Update o) place value) c c1
+update_assign k v target o b place value c c1 h is = record {
+  code = h.code ∙ ap (λ x. c ++ update_code k v (variable_of target) target place x (Some value)
+      (length c)) is;
+  long = h.long;
+}
 
 pub update_step : (k : Context) (v : Variables) (target : ExprTree) (o : StepOp) (place : ℕ)
     (c c1 : List Instruction)

@@ -9,6 +9,7 @@ use Rattle.std.proofs.lemmas.Option.{none-some, same_Some}
 use Rattle.nvm_base.specs.declared.op.BinOp.{BinOp}
 use Rattle.nvm_base.proofs.Lists.{all_append}
 use Rattle.c_tree.specs.declared.stmt.AssignOp.TheVariants as assign
+use Rattle.c_tree.specs.Operators.{update_binary}
 use Rattle.c_tree.specs.ExprTree as expr
 use Rattle.c_tree.specs.ExprTree.{ExprTree, Arguments, Ident}
 use Rattle.c_tree.specs.StmtTree as stmt
@@ -23,6 +24,7 @@ use Rattle.c_types.specs.Fits.{is_int, is_pointer, assigns}
 use Rattle.c_types.specs.Tables.{Tables, function_named, declared_type, pointed_struct}
 use Rattle.c_types.specs.Expressions.{Scope, variable_type, value_broken, type_of, kind_of}
 use Rattle.c_types.specs.Expressions.{broken_in, call_broken, parameters_of, argument_count}
+use Rattle.c_types.specs.Expressions.{sides_type}
 use Rattle.c_types.specs.Statements as types
 use Rattle.c_types.specs.Statements.{is_target, type_broken, simple_broken, initial_broken}
 use Rattle.c_types.specs.Statements.{declaration_broken, first_broken, return_broken}
@@ -34,6 +36,7 @@ use Rattle.ir.specs.declared.instruction.Instruction.TheVariants.{Copy}
 use Rattle.ir.specs.declared.function.Ir.{Ir}
 use Rattle.ir.specs.WellFormed.{IsTarget, IsKind, IsInstruction}
 use Rattle.lower.specs.Assigned.{is_assigned}
+use Rattle.lower.specs.Forms.{operation_of}
 use Rattle.lower.specs.Names.{Variables, inner_variables, variable_declared, variable_register}
 use Rattle.lower.specs.Names.{register_of, variable_of, struct_kind_at}
 use Rattle.lower.specs.Lowers.{Context, exp_end, exp_code, reg_of, target_end, target_code}
@@ -180,7 +183,7 @@ pointer_kind : (k : Context) (ir : Ir) (r n : ℕ) (ty : ValueType) → IsPlaced
 pointer_kind k ir r n (Pointer i) h g e =
     let kind : IsKindOf k.tables i g.0 = kind_of_struct k.tables i g.0 h.sane.structs g.1 g.2 in
     rw h.shapes kind.kind
-pointer_kind k ir r n Int h g e = absurd (false≢true e)
+pointer_kind k ir r n (Int to) h g e = absurd (false≢true e)
 pointer_kind k ir r n Null h g e = absurd (false≢true e)
 pointer_kind k ir r n Any h g e = absurd g
 
@@ -209,8 +212,9 @@ simple_sound k ir r n v (stmt.Assign target (assign.Update o) place value) p h a
     (none_right (unless (assigns (assign.Update o) (type_of t v.scopes target)
     (type_of t v.scopes value)) place Mismatch) _
     (none_right (value_broken t v.scopes value) _ rest)) in
-    update_sound k ir r n v (variable_of target) target place (update_operation o) (Some value) p
-    h a refl good c d lt
+    update_sound k ir r n v (variable_of target) target place
+    (operation_of (sides_type t v.scopes (update_binary o) target value) (update_operation o))
+    (Some value) p h a refl good c d lt
 simple_sound k ir r n v (stmt.Step target o place) p h a b lt =
     let t : Tables = k.tables in
     let c : value_broken t v.scopes target ≡ [] = none_left (value_broken t v.scopes target) _ b in

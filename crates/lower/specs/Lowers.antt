@@ -17,7 +17,7 @@ use Rattle.c_tree.specs.StmtTree.{StmtTree, Statements, SimpleTree, FirstTree, D
 use Rattle.c_tree.specs.StmtTree.{InitialTree}
 use Rattle.c_tree.specs.Program.{Program, source_line}
 use Rattle.c_types.specs.Tables.{Tables, declared_type, pointed_struct}
-use Rattle.c_types.specs.Expressions.{type_of}
+use Rattle.c_types.specs.Expressions.{type_of, sides_type}
 use Rattle.ir.specs.declared.instruction.Target.{Target}
 use Rattle.ir.specs.declared.instruction.Instruction.{Instruction}
 use Rattle.ir.specs.declared.instruction.Instruction.TheVariants.{Const, Copy, Bin, Jump, Branch}
@@ -25,7 +25,8 @@ use Rattle.ir.specs.declared.instruction.Instruction.TheVariants.{Load, Store, N
 use Rattle.ir.specs.declared.instruction.Instruction.TheVariants.{Return, Tick, Trap}
 use Rattle.lower.specs.declared.form.Form.{Form}
 use Rattle.lower.specs.declared.form.Form.TheVariants.{Both, Either, Direct, Exchanged}
-use Rattle.lower.specs.Forms.{form_of}
+use Rattle.lower.specs.Forms.{form_of, typed_form, operation_of}
+use Rattle.c_tree.specs.Operators.{update_binary}
 use Rattle.lower.specs.Names.{Variables, inner_variables, variable_declared, register_of}
 use Rattle.lower.specs.Names.{function_number, kind_named, struct_kind_at}
 use Rattle.lower.specs.Names.{root_target, field_target, element_target, no_target, variable_of}
@@ -58,6 +59,8 @@ abbrev mutual
   exp_end (expr.Unary unary.Negate place a) p = suc (exp_end a (suc p))
   exp_end (expr.Unary unary.Complement place a) p = suc (exp_end a (suc p))
   exp_end (expr.Unary unary.Not place a) p = suc (suc (exp_end a p))
+  -- a cast has no code; the type of ints makes no difference to the length of an operator's code
+  exp_end (expr.Unary (unary.Cast n) place a) p = exp_end a p
   exp_end (expr.Binary o place a b) p = form_end (form_of o) (exp_end b) (exp_end a p)
   exp_end (expr.Conditional c place a b) p =
       suc (exp_end b (suc (suc (exp_end a (suc (exp_end c p))))))
@@ -80,7 +83,8 @@ abbrev mutual
   arguments_end expr.None p = p
   arguments_end (expr.More first value rest) p = arguments_end rest (exp_end value p)
 
--- the register of an expression whose code ends at q; a variable has its own
+-- the register of an expression whose code ends at q; a variable has its own, and a cast that of
+-- its operand
 abbrev pub reg_of : Context → Variables → ExprTree → ℕ → ℕ
 reg_of s v (expr.Variable name) q = register_of name.text v
 reg_of s v (expr.Number n) q = s.node q
@@ -90,7 +94,10 @@ reg_of s v (expr.Root name) q = s.node q
 reg_of s v (expr.New place name) q = s.node q
 reg_of s v (expr.Arrow base place name) q = s.node q
 reg_of s v (expr.Index base place index) q = s.node q
-reg_of s v (expr.Unary o place a) q = s.node q
+reg_of s v (expr.Unary (unary.Cast n) place a) q = reg_of s v a q
+reg_of s v (expr.Unary unary.Negate place a) q = s.node q
+reg_of s v (expr.Unary unary.Not place a) q = s.node q
+reg_of s v (expr.Unary unary.Complement place a) q = s.node q
 reg_of s v (expr.Binary o place a b) q = s.node q
 reg_of s v (expr.Conditional c place a b) q = s.node q
 
@@ -171,10 +178,11 @@ abbrev mutual
       let q : ℕ = exp_end a p in
       exp_code s v a p ++ Const (s.node (suc q)) (pos 0) ∷ Bin op.Eq (s.node (suc (suc q)))
       (reg_of s v a q) (s.node (suc q)) ∷ []
+  exp_code s v (expr.Unary (unary.Cast n) place a) p = exp_code s v a p
   exp_code s v (expr.Binary o place a b) p =
       let q : ℕ = exp_end a p in
-      exp_code s v a p ++ form_code (form_of o) s.node (exp_code s v b) (exp_end b) (reg_of s v b)
-      (reg_of s v a q) q
+      exp_code s v a p ++ form_code (typed_form (sides_type s.tables v.scopes o a b) (form_of o))
+      s.node (exp_code s v b) (exp_end b) (reg_of s v b) (reg_of s v a q) q
   -- a branch over the left side, and after each side a copy to one register
   exp_code s v (expr.Conditional c place a b) p =
       let p1 : ℕ = exp_end c p in
@@ -284,7 +292,9 @@ abbrev pub simple_code : Context → Variables → SimpleTree → ℕ → List I
 simple_code s v (stmt.Assign target assign.Set place value) p =
     set_code s v (variable_of target) target place value p
 simple_code s v (stmt.Assign target (assign.Update o) place value) p =
-    update_code s v (variable_of target) target place (update_operation o) (Some value) p
+    update_code s v (variable_of target) target place
+    (operation_of (sides_type s.tables v.scopes (update_binary o) target value)
+    (update_operation o)) (Some value) p
 simple_code s v (stmt.Step target o place) p =
     update_code s v (variable_of target) target place (step_operation o) None p
 simple_code s v (stmt.Call name all) p = exp_code s v (expr.Call name all) p

@@ -5,23 +5,23 @@ ghost use Rattle.std.specs.Prelude.{◌≡◌, ℕ, false, ◌++◌, length, opt
 ghost use Rattle.c_tree.specs.ExprTree.{expr_of, ident_of, arguments_in};
 ghost use Rattle.c_tree.specs.ExprTree as tree;
 ghost use Rattle.ir.specs.declared.instruction.Instruction.TheVariants as put;
-ghost use Rattle.lower.specs.declared.form.Form.TheVariants as form;
+ghost use Rattle.lower.specs.declared.form.Form.TheVariants as forms;
 ghost use Rattle.lower.specs.inside.Added.{Put, ExprAdded, RightAdded, TargetAdded, ReadAdded};
 ghost use Rattle.lower.specs.inside.Added.{LeftAdded, OtherAdded, ArgumentsAdded, OrAdded};
 ghost use Rattle.lower.specs.inside.Added.{context_of};
 ghost use Rattle.c_tree.specs.Program.{source_line};
 ghost use Rattle.c_types.specs.Views.{tables_in};
 ghost use Rattle.lower.specs.inside.Added as added;
-ghost use Rattle.lower.specs.Forms as forms;
 ghost use Rattle.lower.specs.Lowers.{truth_code};
 ghost use Rattle.lower.specs.Names as names;
 
 use crate::code::Code;
-use crate::form::{Form, form_of};
+use crate::form::{Form, form_of, typed_form};
 use crate::names::{element, field_target, function_number, kind_named, no_target, root_target};
 use crate::source::Source;
 use crate::variables::Variables;
-use c_tree::expr::{Argument, BinaryOp, Expr, Name, UnaryOp};
+use c_tree::expr::{Argument, Expr, Name, UnaryOp};
+use c_types::sides_type;
 use ir::{Instruction, Target};
 use nvm_base::{BinOp, Registers};
 use std::alloc::AllocError;
@@ -54,8 +54,10 @@ pub fn add_expression(
             right,
             ..
         } => {
+            let int = sides_type(source.program, variables.scopes(), *op, left, right);
+            let form = typed_form(int, form_of(*op));
             let on = add_expression(source, variables, code, left)?;
-            add_right(source, variables, code, *op, on, right)
+            add_right(source, variables, code, form, on, right)
         }
         Expr::Conditional {
             condition,
@@ -251,7 +253,7 @@ pub fn add_target(
     }
 }
 
-/// Appends a unary operation: `-e` is 0 - e, `~e` is -1 ^ e, and `!e` is e == 0.
+/// Appends a unary operation: `-e` is 0 - e, `~e` is -1 ^ e, `!e` is e == 0; a cast has no code.
 #[cycle(expressions)]
 #[tactic(auto, using(crate::proofs::ExprAdds::expressions))]
 fn add_unary(
@@ -268,6 +270,7 @@ fn add_unary(
     match op {
         UnaryOp::Negate => add_constant_first(source, variables, code, 0, BinOp::Sub, operand),
         UnaryOp::Complement => add_constant_first(source, variables, code, -1, BinOp::Xor, operand),
+        UnaryOp::Cast(_) => add_expression(source, variables, code, operand),
         UnaryOp::Not => {
             let value = add_expression(source, variables, code, operand)?;
             let zero = add_constant(source, code, 0)?;
@@ -302,14 +305,14 @@ fn add_right(
     source: &Source<'_, '_>,
     variables: &Variables<'_>,
     code: &mut Code,
-    op: BinaryOp,
+    form: Form,
     on: u32,
     right: &Expr,
 ) -> Result<u32, AllocError>
-    ensures { IfOk result (λ r. RightAdded (context_of source.now) variables.now (forms.form_of op)
-        on (expr_of right.now) code.old code.new r) }
+    ensures { IfOk result (λ r. RightAdded (context_of source.now) variables.now form on
+        (expr_of right.now) code.old code.new r) }
 {
-    match form_of(op) {
+    match form {
         Form::Both => add_both(source, variables, code, on, right),
         Form::Either => add_either(source, variables, code, on, right),
         Form::Direct(op) => {
@@ -333,7 +336,7 @@ fn add_both(
     on: u32,
     right: &Expr,
 ) -> Result<u32, AllocError>
-    ensures { IfOk result (λ r. RightAdded (context_of source.now) variables.now form.Both on
+    ensures { IfOk result (λ r. RightAdded (context_of source.now) variables.now forms.Both on
         (expr_of right.now) code.old code.new r) }
 {
     let first = code.end();
@@ -357,7 +360,7 @@ fn add_either(
     on: u32,
     right: &Expr,
 ) -> Result<u32, AllocError>
-    ensures { IfOk result (λ r. RightAdded (context_of source.now) variables.now form.Either on
+    ensures { IfOk result (λ r. RightAdded (context_of source.now) variables.now forms.Either on
         (expr_of right.now) code.old code.new r) }
 {
     let first = code.end();

@@ -3,7 +3,7 @@
 ghost use Rattle.std.specs.Prelude.{◌≡◌};
 ghost use Rattle.lower.specs.Forms as forms;
 
-use c_tree::expr::BinaryOp;
+use c_tree::expr::{BinaryOp, IntType};
 use nvm_base::BinOp;
 
 /// `&&` and `||` are branches. Each other operator is one operation, and `a > b` is `b < a`.
@@ -15,7 +15,42 @@ pub enum Form {
     Exchanged(BinOp),
 }
 
-/// The form of an operator.
+/// The operation of ints of this type, where it is `op` of `int64_t`.
+pub fn operation_of(int: IntType, op: BinOp) -> BinOp
+    ensures { result ≡ forms.operation_of int op }
+{
+    match int {
+        IntType::Signed => op,
+        IntType::Unsigned => unsigned_operation(op),
+    }
+}
+
+fn unsigned_operation(op: BinOp) -> BinOp
+    ensures { result ≡ forms.unsigned_operation op }
+{
+    match op {
+        BinOp::Div => BinOp::Udiv,
+        BinOp::Rem => BinOp::Urem,
+        BinOp::Shr => BinOp::Ushr,
+        BinOp::Lt => BinOp::Ult,
+        BinOp::Le => BinOp::Ule,
+        _ => op,
+    }
+}
+
+/// The form with the operation of ints of this type.
+pub fn typed_form(int: IntType, form: Form) -> Form
+    ensures { result ≡ forms.typed_form int form }
+{
+    match form {
+        Form::Both => Form::Both,
+        Form::Either => Form::Either,
+        Form::Direct(op) => Form::Direct(operation_of(int, op)),
+        Form::Exchanged(op) => Form::Exchanged(operation_of(int, op)),
+    }
+}
+
+/// The form of an operator of `int64_t`.
 pub fn form_of(op: BinaryOp) -> Form
     ensures { result ≡ forms.form_of op }
 {

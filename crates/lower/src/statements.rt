@@ -15,11 +15,13 @@ use crate::expressions::{
     add_call, add_constant, add_copy, add_expression, add_load, add_operation, add_or_constant,
     add_target,
 };
+use crate::form::operation_of;
 use crate::names::{as_variable, kind_of_object};
 use crate::source::Source;
 use crate::variables::Variables;
 use c_tree::expr::Expr;
 use c_tree::stmt::{AssignOp, Declaration, First, Initial, Simple, StepOp, Stmt, UpdateOp};
+use c_types::sides_type;
 use ir::Instruction;
 use nvm_base::BinOp;
 use pool_map::TrapKind;
@@ -416,7 +418,9 @@ fn add_assign(
     match op {
         AssignOp::Set => add_assignment(source, variables, code, target, place, value),
         AssignOp::Update(op) => {
-            let op = update_operation(op);
+            let scopes = variables.scopes();
+            let int = sides_type(source.program, scopes, op.binary(), target, value);
+            let op = operation_of(int, update_operation(op));
             add_update(source, variables, code, target, place, op, Some(value))
         }
     }

@@ -14,8 +14,7 @@ use Rattle.c_types.specs.Broken.{unless}
 use Rattle.c_types.specs.Fits.{type_takes, is_pointer}
 use Rattle.c_types.specs.Tables.{Tables, function_named, number_at, pointed_struct}
 use Rattle.c_types.specs.Shapes.{shapes_in}
-use Rattle.c_types.specs.Expressions as types
-use Rattle.c_types.specs.Expressions.{Scope, variable_type, kind_of, type_of, broken_in}
+use Rattle.c_types.specs.Expressions.{variable_type, kind_of, type_of, broken_in}
 use Rattle.c_types.specs.Expressions.{broken_in_all, value_broken, call_broken, parameters_of}
 use Rattle.c_types.specs.Expressions.{parameter_type, argument_count, root_broken, arrow_broken}
 use Rattle.c_types.specs.Statements.{is_target}
@@ -24,8 +23,6 @@ use Rattle.pool_map.specs.declared.shapes.Shapes.{Shapes}
 use Rattle.pool_map.specs.PoolMap.{free}
 use Rattle.pool_map.specs.Checks.{then_on}
 use Rattle.c_meaning.specs.Access as access
-use Rattle.c_meaning.specs.Locals.{scopes_of}
-use Rattle.c_meaning.specs.Locals as locals
 use Rattle.ir.specs.declared.function.Ir.{Ir}
 use Rattle.lower.specs.Names.{Variables, LocalRegister, variable_of, root_target, field_target}
 use Rattle.lower.specs.Names.{kind_named}
@@ -36,6 +33,7 @@ use Rattle.lower.proofs.Alike.{IsSame, kind_same, broken_same}
 use Rattle.lower.proofs.ExprSound.{arrow_parts, index_parts, value_array}
 use Rattle.code_meaning.specs.Code.{spot_of, new_in}
 use Rattle.lower_law.proofs.Locals.{Entry, Agrees, entry_type, entry_register, scopes_in}
+use Rattle.lower_law.proofs.Sides.{scopes_same, type_met}
 use Rattle.lower_law.proofs.Fits.{FieldFits, ExpFits, PointerFits, ArgumentsFit}
 use Rattle.lower_law.proofs.StmtFits.{TargetFits, FreeFits}
 use Rattle.lower_law.proofs.Typed.{call_fits}
@@ -50,18 +48,6 @@ AreGood t (e ∷ es) = IsGood t e.ty × AreGood t es
 pub record Sees (t : Tables) (v : Variables) (es : List Entry) : Type 0 where
   pub agrees : Agrees v es
   pub good : AreGood t es
-
-entry_scopes : (name : List ℕ) (es : List Entry) → variable_type name (scopes_in es)
-    ≡ entry_type name es
-entry_scopes name [] = refl
-entry_scopes name (e ∷ es) = by_test (bytes_eq name e.name) (entry_scopes name es)
-  where
-    by_test : (b : Bool) → variable_type name (scopes_in es) ≡ entry_type name es
-        → types.or_else (option_and_then (slice_get (e.ty ∷ [])) (if b then Some 0
-        else option_map suc None)) (variable_type name (scopes_in es))
-        ≡ (if b then Some e.ty else entry_type name es)
-    by_test true rest = refl
-    by_test false rest = rest
 
 -- the entries as variables of the code
 abbrev locals_in : List Entry → List (List LocalRegister)
@@ -90,27 +76,21 @@ register_there name (x ∷ es) e =
 
 module _ (k : Context) (ir : Ir) (sane : IsSane k.tables) (shaped : ir.shapes ≡ shapes_in k.tables)
     (v : Variables) (es : List Entry) (sees : Sees k.tables v es) where
-  scopes_same : IsSame v.scopes (scopes_in es)
-  scopes_same name = (sees.agrees name).0 ∙ sym (entry_scopes name es)
+  met : IsSame v.scopes (scopes_in es)
+  met = scopes_same v es sees.agrees
 
   kind_is_good : (e : ExprTree) → broken_in k.tables v.scopes e ≡ []
       → IsGoodKind k.tables (kind_of k.tables v.scopes e)
   kind_is_good e b =
-      subst (IsGoodKind k.tables) (sym (kind_same k.tables v.scopes (scopes_in es) scopes_same e))
+      subst (IsGoodKind k.tables) (sym (kind_same k.tables v.scopes (scopes_in es) met e))
       (kind_good k.tables 1 (variables_in es) e sane (good_agree k.tables es sees.good)
-      (sym (broken_same k.tables v.scopes (scopes_in es) scopes_same e) ∙ b))
+      (sym (broken_same k.tables v.scopes (scopes_in es) met e) ∙ b))
 
   type_is_good : (e : ExprTree) → value_broken k.tables v.scopes e ≡ []
       → IsGood k.tables (type_of k.tables v.scopes e)
   type_is_good e b = value_good k.tables (broken_in k.tables v.scopes e)
       (kind_of k.tables v.scopes e) (kind_is_good e (none_left (broken_in k.tables v.scopes e) _ b))
       b
-
-  -- the type that the tree's meaning finds
-  type_met : (ls : List locals.Local) (e : ExprTree) → scopes_of ls ≡ scopes_in es
-      → type_of k.tables (scopes_of ls) e ≡ type_of k.tables v.scopes e
-  type_met ls e is = ap (λ (s : List Scope). type_of k.tables s e) is
-      ∙ sym (ap types.type_of_kind (kind_same k.tables v.scopes (scopes_in es) scopes_same e))
 
   root_fits : (name : Ident) → root_broken k.tables name ≡ [] → FieldFits k ir v es (expr.Root name)
   root_fits name b p ls is w c j = root_word k.tables name w c j sane b
@@ -123,7 +103,7 @@ module _ (k : Context) (ir : Ir) (sane : IsSane k.tables) (shaped : ir.shapes �
       let ty : ValueType = type_of k.tables v.scopes base in
       let reg : ℕ = reg_of k v base (exp_end base p) in
       ap (λ (y : ValueType). access.pointed_word k.tables w (pointed_struct y) c
-      name.text j) (type_met ls base is)
+      name.text j) (type_met k.tables v es ls sees.agrees is base)
       ∙ arrow_word k.tables ty place name reg w c j sane (type_is_good base b) e
       ∙ ap (λ (x : Shapes). spot_of x w (field_target k.tables ty reg name.text) c j) (sym shaped)
 
@@ -226,5 +206,5 @@ module _ (k : Context) (ir : Ir) (sane : IsSane k.tables) (shaped : ir.shapes �
   free_fits e b pointer ls is w c =
       ap (λ (y : ValueType). then_on
       (access.struct_slot w (option_map (number_at k.tables) (pointed_struct y)) c)
-      (λ s. Ok (free w s))) (type_met ls e is)
+      (λ s. Ok (free w s))) (type_met k.tables v es ls sees.agrees is e)
       ∙ free_word k.tables (type_of k.tables v.scopes e) w c sane (type_is_good e b) pointer

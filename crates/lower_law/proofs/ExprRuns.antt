@@ -4,10 +4,12 @@ use Rattle.std.proofs.Common.{sym, ap, ◌∙◌, subst, arith, append_assoc}
 use Rattle.std.specs.Prelude.{Option, None, Some}
 use Rattle.nvm_base.specs.declared.op.BinOp.TheVariants as op
 use Rattle.nvm_base.specs.Operations as word
+use Rattle.c_tree.specs.declared.expr.IntType.{IntType}
 use Rattle.c_tree.specs.declared.expr.UnaryOp.TheVariants as unary
 use Rattle.c_tree.specs.ExprTree as expr
 use Rattle.c_tree.specs.ExprTree.{ExprTree, Arguments}
 use Rattle.c_tree.specs.ItemTree.{FunctionTree}
+use Rattle.c_types.specs.Expressions.{sides_type}
 use Rattle.pool_map.specs.PoolMap.{PoolMap}
 use Rattle.pool_map.specs.declared.trap.TrapKind.TheVariants as trap
 use Rattle.c_meaning.specs.Locals.{Local, value_named}
@@ -16,30 +18,39 @@ use Rattle.c_meaning.specs.Access.{new_object}
 use Rattle.c_meaning.specs.Meaning as meaning
 use Rattle.c_meaning.specs.Meaning.{Out, Got, Stops, Calls, then_do, at_zero, loaded, made, tick}
 use Rattle.c_meaning.specs.Meaning.{called, value_of, pointer_of, values_of, placed_trap}
+use Rattle.c_meaning.specs.Meaning.{binary_means}
 use Rattle.ir.specs.declared.instruction.Target.{Target}
 use Rattle.ir.specs.declared.instruction.Instruction.{Instruction}
 use Rattle.ir.specs.declared.instruction.Instruction.TheVariants.{Const, Copy, Bin, Jump, Branch}
 use Rattle.ir.specs.declared.instruction.Instruction.TheVariants.{Load, Call, Tick}
 use Rattle.ir.specs.declared.function.Ir.{Ir}
-use Rattle.lower.specs.Forms.{form_of}
+use Rattle.lower.specs.declared.form.Form.{Form}
+use Rattle.lower.specs.Forms.{form_of, typed_form}
 use Rattle.lower.specs.Names.{Variables, register_of, function_number, kind_named, element_target}
 use Rattle.lower.specs.Lowers.{Context, exp_end, exp_code, reg_of, target_end, target_code}
 use Rattle.lower.specs.Lowers.{target_of, arguments_end, arguments_code, registers_of, form_end}
 use Rattle.lower.specs.Lowers.{form_code}
 use Rattle.lower.proofs.Ends.{exp_end_le, target_end_le, arguments_end_le, form_end_le}
+use Rattle.lower.proofs.Ends.{form_end_typed}
 use Rattle.code_meaning.specs.Code.{Frame, Here, Goes, register_at, put_register, act}
 use Rattle.code_meaning.specs.Code.{instruction_step, base_in}
 use Rattle.code_meaning.proofs.Registers.{at_put_same}
 use Rattle.lower_law.proofs.Paths.{path_step}
 use Rattle.lower_law.proofs.Has.{HasAt, exp_has, target_has, arguments_has}
 use Rattle.lower_law.proofs.Locals.{Entry, Agrees, Holds, AreBelow, Same, value_held, held_after}
-use Rattle.lower_law.proofs.Locals.{below_more, entry_below, register_found}
+use Rattle.lower_law.proofs.Locals.{below_more, entry_below, register_found, scopes_held}
+use Rattle.lower_law.proofs.Sides.{sides_met}
 use Rattle.lower_law.proofs.Fits.{WordFits, ExpFits, PointerFits, ArgumentsFit}
 use Rattle.lower_law.proofs.ExprSteps.{CallsRun, form_value, form_means, element_fits, element_base}
 use Rattle.lower_law.proofs.ExprSteps.{element_index, grows, Gives, word_at, words_at, base_at}
 use Rattle.lower_law.proofs.ExprSteps.{after, gives_then, put_same, puts, field_gives, stays}
 use Rattle.lower_law.proofs.ExprSteps.{at_branch, branch_gives, hands_on, copy_gives, copy_jumps}
 use Rattle.lower_law.proofs.ExprSteps.{tick_gives, form_runs}
+
+-- a value that nothing is done to
+then_same : (o : Out ℤ) → then_do o (λ x w t. Got x w t) ≡ o
+then_same (Got x w t) = refl
+then_same (Stops trap) = refl
 
 module _ (ir : Ir) (m f : ℕ) (k : Context) (rises : (p q : ℕ) → p < q → k.node p < k.node q)
     (below : List Frame) where
@@ -72,7 +83,10 @@ module _ (ir : Ir) (m f : ℕ) (k : Context) (rises : (p q : ℕ) → p < q → 
     reg_le (expr.New place name) p q le under fits = omega arith
     reg_le (expr.Arrow base place name) p q le under fits = omega arith
     reg_le (expr.Index base place index) p q le under fits = omega arith
-    reg_le (expr.Unary o place a) p q le under fits = omega arith
+    reg_le (expr.Unary unary.Negate place a) p q le under fits = omega arith
+    reg_le (expr.Unary unary.Not place a) p q le under fits = omega arith
+    reg_le (expr.Unary unary.Complement place a) p q le under fits = omega arith
+    reg_le (expr.Unary (unary.Cast n) place a) p q le under fits = reg_le a p q le under fits
     reg_le (expr.Binary o place a b) p q le under fits = omega arith
     reg_le (expr.Conditional c place a b) p q le under fits = omega arith
 
@@ -296,33 +310,50 @@ module _ (ir : Ir) (m f : ℕ) (k : Context) (rises : (p q : ℕ) → p < q → 
           (put_register g.regs' to (word.eq u (register_at g.regs' z))) below w1 t1)) e2
           ∙ ap (λ u. Goes (Here f (suc (suc q)) (put_register g.regs' to (word.eq x u)) below w1
           t1)) g.value)))
+      exp_runs (expr.Unary (unary.Cast n) place a) p rest regs w t fits h ready =
+          subst (λ (out : Out ℤ). Gives ir m f k rises below
+          (word_at ir m f k rises below (reg_of k v a (exp_end a p))) p (exp_end a p) regs w t out)
+          (sym (then_same (value_of k.tables calls a ls w t)))
+          (exp_runs a p rest regs w t fits h ready)
       exp_runs (expr.Binary o place a b) p rest regs w t fits h ready =
           let q : ℕ = exp_end a p in
           let ra : ℕ = reg_of k v a q in
-          let end : ℕ = form_end (form_of o) (exp_end b) q in
-          let is : List Instruction = form_code (form_of o) k.node (exp_code k v b) (exp_end b)
+          let n : IntType = sides_type k.tables v.scopes o a b in
+          let form : Form = typed_form n (form_of o) in
+          let end : ℕ = form_end form (exp_end b) q in
+          let is : List Instruction = form_code form k.node (exp_code k v b) (exp_end b)
           (reg_of k v b) ra q in
+          let left : Out ℤ = value_of k.tables calls a ls w t in
           let right : PoolMap → ℕ → Out ℤ = λ w t. value_of k.tables calls b ls w t in
           let ha : HasAt ir f p (exp_code k v a p ++ (is ++ rest)) = simp append_assoc at h in
           let hq : HasAt ir f q (is ++ rest) = exp_has ir f k v a p (is ++ rest) ha in
           let le : p ≤ q = exp_end_le a p in
-          subst (λ (out : Out ℤ). Gives ir m f k rises below
+          let means : value_of k.tables calls (expr.Binary o place a b) ls w t
+          ≡ then_do left (λ x w t. form_value form place x right w t) =
+          ap (λ (i : IntType). binary_means o i place left right)
+          (sides_met k.tables v es ls agrees (scopes_held es ls regs ready.holds) o a b)
+          ∙ form_means o n place left right in
+          subst (λ (z : ℕ). Gives ir m f k rises below
+          (word_at ir m f k rises below (k.node z)) p z regs w t
+          (value_of k.tables calls (expr.Binary o place a b) ls w t))
+          (form_end_typed n (form_of o) (exp_end b) q)
+          (subst (λ (out : Out ℤ). Gives ir m f k rises below
           (word_at ir m f k rises below (k.node end)) p end regs w t out)
-          (sym (form_means o place (value_of k.tables calls a ls w t) right))
+          (sym means)
           (gives_then ir m f k rises below (word_at ir m f k rises below ra)
           (word_at ir m f k rises below (k.node end)) p q end regs w t
-          (value_of k.tables calls a ls w t) (λ x w t. form_value (form_of o) place x right w t) le
-          (form_end_le (form_of o) (exp_end b) q (λ z. exp_end_le b z))
+          left (λ x w t. form_value form place x right w t) le
+          (form_end_le form (exp_end b) q (λ z. exp_end_le b z))
           (exp_runs a p (is ++ rest) regs w t fits.0 ha ready)
           (λ x w1 t1 regs1 s1 e1. let ready1 : Ready q regs1 = ready_after p q regs regs1 le
           s1 ready in
-          form_runs ir m f k rises below (form_of o) place (exp_code k v b) (exp_end b)
+          form_runs ir m f k rises below form place (exp_code k v b) (exp_end b)
           (reg_of k v b)
           right ra q x rest regs1 w1 t1 (λ z. exp_end_le b z) (λ z r hz.
           exp_has ir f k v b z r hz)
           (λ z r lez hz. exp_runs b z r regs1 w1 t1 fits.1 hz
           (ready_after q z regs1 regs1 lez (λ r small. refl) ready1))
-          (reg_le a p q le ready.under fits.0) e1 hq))
+          (reg_le a p q le ready.under fits.0) e1 hq)))
       exp_runs (expr.Conditional c place a b) p rest regs w t fits h ready =
           let p1 : ℕ = exp_end c p in
           let p2 : ℕ = exp_end a (suc p1) in

@@ -4,6 +4,8 @@ use Rattle.std.proofs.Common.{◌≡◌, ℕ, zero, suc, ◌<◌, ◌≤◌, ℤ
 use Rattle.std.proofs.Common.{refl, sym, ap, ◌∙◌, subst, arith, zero-add, append_assoc, ⊎_elim}
 use Rattle.std.specs.Prelude.{Option, None, Some, Result, Ok, Err, if◌then◌else◌, slice_get}
 use Rattle.std.proofs.lemmas.Bool.{cases_lt}
+use Rattle.c_tree.specs.declared.expr.IntType.{IntType}
+use Rattle.c_tree.specs.declared.expr.IntType.TheVariants.{Signed, Unsigned}
 use Rattle.c_tree.specs.declared.expr.BinaryOp.{BinaryOp}
 use Rattle.c_tree.specs.declared.expr.BinaryOp.TheVariants as binary
 use Rattle.c_tree.specs.ExprTree.{ExprTree}
@@ -26,7 +28,7 @@ use Rattle.ir.specs.declared.instruction.Instruction.TheVariants.{Load, Call, Ti
 use Rattle.ir.specs.declared.function.Ir.{Ir}
 use Rattle.lower.specs.declared.form.Form.{Form}
 use Rattle.lower.specs.declared.form.Form.TheVariants.{Both, Either, Direct, Exchanged}
-use Rattle.lower.specs.Forms.{form_of}
+use Rattle.lower.specs.Forms.{form_of, typed_form}
 use Rattle.lower.specs.Names.{element_target}
 use Rattle.lower.specs.Lowers.{Context, form_end, form_code, truth_code}
 use Rattle.code_meaning.specs.Code.{Frame, Here, Trapped, Goes, Ends, Move, Spot, register_at}
@@ -67,26 +69,43 @@ form_value (Direct o) place x b w t =
 form_value (Exchanged o) place x b w t =
     then_do (b w t) (λ y w t. or_trap (word_of o y x) (placed_trap trap.Divide place) w t)
 
-pub form_means : (o : BinaryOp) (place : ℕ) (a : Out ℤ) (b : PoolMap → ℕ → Out ℤ)
-    → binary_means o place a b ≡ then_do a (λ x w t. form_value (form_of o) place x b w t)
-form_means binary.Mul place a b = refl
-form_means binary.Div place a b = refl
-form_means binary.Rem place a b = refl
-form_means binary.Add place a b = refl
-form_means binary.Sub place a b = refl
-form_means binary.ShiftLeft place a b = refl
-form_means binary.ShiftRight place a b = refl
-form_means binary.Less place a b = refl
-form_means binary.LessEqual place a b = refl
-form_means binary.Greater place a b = refl
-form_means binary.GreaterEqual place a b = refl
-form_means binary.Equal place a b = refl
-form_means binary.NotEqual place a b = refl
-form_means binary.And place a b = refl
-form_means binary.Xor place a b = refl
-form_means binary.Or place a b = refl
-form_means binary.Both place a b = refl
-form_means binary.Either place a b = refl
+pub form_means : (o : BinaryOp) (n : IntType) (place : ℕ) (a : Out ℤ) (b : PoolMap → ℕ → Out ℤ)
+    → binary_means o n place a b
+    ≡ then_do a (λ x w t. form_value (typed_form n (form_of o)) place x b w t)
+form_means binary.Mul Signed place a b = refl
+form_means binary.Mul Unsigned place a b = refl
+form_means binary.Div Signed place a b = refl
+form_means binary.Div Unsigned place a b = refl
+form_means binary.Rem Signed place a b = refl
+form_means binary.Rem Unsigned place a b = refl
+form_means binary.Add Signed place a b = refl
+form_means binary.Add Unsigned place a b = refl
+form_means binary.Sub Signed place a b = refl
+form_means binary.Sub Unsigned place a b = refl
+form_means binary.ShiftLeft Signed place a b = refl
+form_means binary.ShiftLeft Unsigned place a b = refl
+form_means binary.ShiftRight Signed place a b = refl
+form_means binary.ShiftRight Unsigned place a b = refl
+form_means binary.Less Signed place a b = refl
+form_means binary.Less Unsigned place a b = refl
+form_means binary.LessEqual Signed place a b = refl
+form_means binary.LessEqual Unsigned place a b = refl
+form_means binary.Greater Signed place a b = refl
+form_means binary.Greater Unsigned place a b = refl
+form_means binary.GreaterEqual Signed place a b = refl
+form_means binary.GreaterEqual Unsigned place a b = refl
+form_means binary.Equal Signed place a b = refl
+form_means binary.Equal Unsigned place a b = refl
+form_means binary.NotEqual Signed place a b = refl
+form_means binary.NotEqual Unsigned place a b = refl
+form_means binary.And Signed place a b = refl
+form_means binary.And Unsigned place a b = refl
+form_means binary.Xor Signed place a b = refl
+form_means binary.Xor Unsigned place a b = refl
+form_means binary.Or Signed place a b = refl
+form_means binary.Or Unsigned place a b = refl
+form_means binary.Both n place a b = refl
+form_means binary.Either n place a b = refl
 
 -- an element's target is its field's with an index
 pub element_fits : (tables : Tables) (ir : Ir) (es : List Entry) (e : ExprTree) (x : Target) (r : ℕ)

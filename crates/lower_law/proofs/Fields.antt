@@ -255,7 +255,7 @@ arrow_word t (Pointer i) place name reg w b j h g e =
     (λ i. Ok (Field s i)))) slot
     ∙ ap (λ (o : Result ℕ TrapKind).
     then_on (code.slot_of w kind b) (λ s. then_on o (λ i. Ok (Field s i)))) word
-arrow_word t Int place name reg w b j h g e = absurd (some_none e)
+arrow_word t (Int n) place name reg w b j h g e = absurd (some_none e)
   where
     some_none : broken_at place Mismatch ≡ [] → ⊥
     some_none e = cc
@@ -336,6 +336,6 @@ free_word t (Pointer i) w b h g e =
         ≡ then_on o (λ s. Ok (free w s))
     freed (Ok s) = refl
     freed (Err k) = refl
-free_word t Int w b h g e = absurd (false≢true e)
+free_word t (Int n) w b h g e = absurd (false≢true e)
 free_word t Null w b h g e = absurd (false≢true e)
 free_word t Any w b h g e = absurd g

@@ -1,16 +1,18 @@
 -- Code at its place: the code after that of a tree begins where the tree's code ends.
 use Rattle.std.proofs.Common.{◌≡◌, ℕ, suc, ℤ, pos, List, [], ◌∷◌, ◌++◌, Option, Some, None}
-use Rattle.std.proofs.Common.{append_assoc}
+use Rattle.std.proofs.Common.{append_assoc, subst}
 use Rattle.nvm_base.specs.declared.op.BinOp.{BinOp}
 use Rattle.nvm_base.specs.declared.op.BinOp.TheVariants as op
+use Rattle.c_tree.specs.declared.expr.IntType.{IntType}
 use Rattle.c_tree.specs.declared.expr.UnaryOp.TheVariants as unary
 use Rattle.c_tree.specs.declared.stmt.AssignOp.TheVariants as assign
+use Rattle.c_tree.specs.Operators.{update_binary}
 use Rattle.c_tree.specs.ExprTree as expr
 use Rattle.c_tree.specs.ExprTree.{ExprTree, Arguments, Ident}
 use Rattle.c_tree.specs.StmtTree as stmt
 use Rattle.c_tree.specs.StmtTree.{StmtTree, Statements, SimpleTree, FirstTree, InitialTree}
 use Rattle.c_tree.specs.Program.{source_line}
-use Rattle.c_types.specs.Expressions.{type_of}
+use Rattle.c_types.specs.Expressions.{type_of, sides_type}
 use Rattle.c_types.specs.Tables.{pointed_struct}
 use Rattle.ir.specs.declared.instruction.Target.{Target}
 use Rattle.ir.specs.declared.instruction.Instruction.{Instruction}
@@ -21,7 +23,7 @@ use Rattle.ir.specs.declared.function.Ir.{Ir}
 use Rattle.ir.specs.Places.{instruction_at}
 use Rattle.lower.specs.declared.form.Form.{Form}
 use Rattle.lower.specs.declared.form.Form.TheVariants.{Both, Either, Direct, Exchanged}
-use Rattle.lower.specs.Forms.{form_of}
+use Rattle.lower.specs.Forms.{form_of, typed_form, operation_of}
 use Rattle.lower.specs.Names.{Variables, inner_variables, register_of, function_number}
 use Rattle.lower.specs.Names.{struct_kind_at, variable_of}
 use Rattle.lower.specs.Lowers.{Context, exp_end, exp_code, reg_of, target_end, target_code}
@@ -32,6 +34,7 @@ use Rattle.lower.specs.Lowers.{simple_end, simple_code}
 use Rattle.lower.specs.Lowers.{initial_end, initial_code, first_end, first_code}
 use Rattle.lower.specs.Lowers.{variables_after_first, third_end, third_code, variables_after}
 use Rattle.lower.specs.Lowers.{stmt_end, stmt_code, statements_end, statements_code}
+use Rattle.lower.proofs.Ends.{form_end_typed}
 
 module _ (ir : Ir) (f : ℕ) where
   abbrev pub At : ℕ → Instruction → Type 0
@@ -98,13 +101,17 @@ module _ (ir : Ir) (f : ℕ) where
           let j : Instruction = Bin op.Eq (k.node (suc (suc q))) (reg_of k v a q)
           (k.node (suc q)) in
           (exp_has v a p (i ∷ j ∷ rest) (simp append_assoc at h)).1.1
+      exp_has v (expr.Unary (unary.Cast n) place a) p rest h = exp_has v a p rest h
       exp_has v (expr.Binary o place a b) p rest h =
           let q : ℕ = exp_end a p in
-          let is : List Instruction = form_code (form_of o) k.node (exp_code k v b) (exp_end b)
+          let n : IntType = sides_type k.tables v.scopes o a b in
+          let form : Form = typed_form n (form_of o) in
+          let is : List Instruction = form_code form k.node (exp_code k v b) (exp_end b)
           (reg_of k v b) (reg_of k v a q) q in
-          form_has (form_of o) (exp_code k v b) (exp_end b) (reg_of k v b) (reg_of k v a q) q rest
+          subst (λ (z : ℕ). HasAt z rest) (form_end_typed n (form_of o) (exp_end b) q)
+          (form_has form (exp_code k v b) (exp_end b) (reg_of k v b) (reg_of k v a q) q rest
           (λ x r g. exp_has v b x r g)
-          (exp_has v a p (is ++ rest) (simp append_assoc at h))
+          (exp_has v a p (is ++ rest) (simp append_assoc at h)))
       exp_has v (expr.Conditional c place a b) p rest h =
           let p1 : ℕ = exp_end c p in
           let p2 : ℕ = exp_end a (suc p1) in
@@ -190,7 +197,9 @@ module _ (ir : Ir) (f : ℕ) where
     simple_has v (stmt.Assign target assign.Set place value) p rest h =
         set_has v (variable_of target) target place value p rest h
     simple_has v (stmt.Assign target (assign.Update o) place value) p rest h =
-        update_has v (variable_of target) target place (update_operation o) (Some value) p rest h
+        update_has v (variable_of target) target place
+        (operation_of (sides_type k.tables v.scopes (update_binary o) target value)
+        (update_operation o)) (Some value) p rest h
     simple_has v (stmt.Step target o place) p rest h =
         update_has v (variable_of target) target place (step_operation o) None p rest h
     simple_has v (stmt.Call name all) p rest h = exp_has v (expr.Call name all) p rest h

@@ -10,6 +10,7 @@ use Rattle.std.proofs.lemmas.Option.{slice_get-map, none-some, same_Some}
 use Rattle.std.proofs.lemmas.Bool.{false≢true}
 use Rattle.nvm_base.specs.declared.op.BinOp.{BinOp}
 use Rattle.c_tree.specs.declared.stmt.AssignOp.TheVariants as assign
+use Rattle.c_tree.specs.Operators.{update_binary}
 use Rattle.c_tree.specs.ExprTree as expr
 use Rattle.c_tree.specs.ExprTree.{ExprTree, Ident}
 use Rattle.c_tree.specs.StmtTree as stmt
@@ -17,12 +18,14 @@ use Rattle.c_tree.specs.StmtTree.{StmtTree, Statements, SimpleTree, FirstTree}
 use Rattle.c_tree.specs.ItemTree.{FunctionTree, ParameterTree}
 use Rattle.c_tree.specs.Program.{Program, tree_of}
 use Rattle.c_types.specs.Tables.{Tables, tables_of, declared_type}
+use Rattle.c_types.specs.Expressions.{sides_type}
 use Rattle.ir.specs.declared.instruction.Instruction.{Instruction}
 use Rattle.ir.specs.declared.instruction.Instruction.TheVariants.{Copy}
 use Rattle.ir.specs.declared.function.IrFunction.{IrFunction}
 use Rattle.ir.specs.declared.function.Ir.{Ir}
 use Rattle.lower.specs.Assigned.{is_named, is_assignment, declares, first_declares, first_assigns}
 use Rattle.lower.specs.Assigned.{third_assigns, assigns_name, is_assigned}
+use Rattle.lower.specs.Forms.{operation_of}
 use Rattle.lower.specs.Names.{Variables, inner_variables, variable_declared, register_of}
 use Rattle.lower.specs.Names.{variable_of}
 use Rattle.lower.specs.Lowers.{Context, exp_end, exp_code, target_end, target_code, or_end, or_code}
@@ -93,8 +96,9 @@ module _ (n : ℕ) (k : Context) (from : (q : ℕ) → n ≤ k.node q) where
     simple_leaves v es (stmt.Assign target assign.Set place value) p agrees fits h =
         set_leaves v es (variable_of target) target place value p agrees refl fits.0 h
     simple_leaves v es (stmt.Assign target (assign.Update o) place value) p agrees fits h =
-        update_leaves v es (variable_of target) target place (update_operation o) (Some value) p
-        agrees refl fits.0 h
+        update_leaves v es (variable_of target) target place
+        (operation_of (sides_type k.tables v.scopes (update_binary o) target value)
+        (update_operation o)) (Some value) p agrees refl fits.0 h
     simple_leaves v es (stmt.Step target o place) p agrees fits h =
         update_leaves v es (variable_of target) target place (step_operation o) None p agrees
         refl fits h

@@ -8,14 +8,16 @@ use Rattle.std.proofs.lemmas.Slice.Eq.{bytes_eq-Decides}
 use Rattle.std.proofs.lemmas.Bool.{false≢true}
 use Rattle.std.proofs.lemmas.Option.{same_Some}
 use Rattle.nvm_base.proofs.Lists.{all_append}
+use Rattle.c_tree.specs.declared.expr.IntType.{IntType}
 use Rattle.c_tree.specs.declared.expr.UnaryOp.TheVariants as unary
 use Rattle.c_tree.specs.ExprTree as expr
 use Rattle.c_tree.specs.ExprTree.{ExprTree, Arguments}
 use Rattle.c_tree.specs.StmtTree.{InitialTree}
+use Rattle.c_types.specs.Expressions.{sides_type}
 use Rattle.ir.specs.declared.instruction.Instruction.{Instruction}
 use Rattle.lower.specs.declared.form.Form.{Form}
 use Rattle.lower.specs.declared.form.Form.TheVariants.{Both, Either, Direct, Exchanged}
-use Rattle.lower.specs.Forms.{form_of}
+use Rattle.lower.specs.Forms.{form_of, typed_form}
 use Rattle.lower.specs.Names.{Variables}
 use Rattle.lower.specs.Lowers.{Context, exp_end, exp_code, reg_of, target_end, target_code}
 use Rattle.lower.specs.Lowers.{arguments_end, arguments_code, form_code, truth_code, or_code}
@@ -135,10 +137,12 @@ module _ (n : ℕ) (k : Context) (from : (q : ℕ) → n ≤ k.node q) where
           from (suc q),
           (from (suc (suc q)), tt),
         )
+    exp_leaves v (expr.Unary (unary.Cast to) place a) p = exp_leaves v a p
     exp_leaves v (expr.Binary o place a b) p =
         let q : ℕ = exp_end a p in
+        let form : Form = typed_form (sides_type k.tables v.scopes o a b) (form_of o) in
         both_leave n (exp_code k v a p) _ (exp_leaves v a p)
-        (form_leaves (form_of o) (exp_code k v b) (exp_end b) (reg_of k v b) (reg_of k v a q) q
+        (form_leaves form (exp_code k v b) (exp_end b) (reg_of k v b) (reg_of k v a q) q
         (λ z. exp_leaves v b z))
     exp_leaves v (expr.Conditional c place a b) p =
         let p1 : ℕ = exp_end c p in

@@ -1,6 +1,7 @@
 pub mod Paths
 pub mod Has
 pub mod Locals
+pub mod Sides
 pub mod Fits
 pub mod ExprSteps
 pub mod ExprRuns

@@ -5,6 +5,8 @@ use Rattle.std.specs.Prelude.{Option, None, Some, option_map}
 use Rattle.std.specs.Option.{option_map_or}
 use Rattle.nvm_base.specs.declared.op.BinOp.{BinOp}
 use Rattle.nvm_base.specs.declared.op.BinOp.TheVariants as op
+use Rattle.c_tree.specs.declared.expr.IntType.{IntType}
+use Rattle.c_tree.specs.declared.expr.IntType.TheVariants.{Signed, Unsigned}
 use Rattle.c_tree.specs.declared.expr.BinaryOp.{BinaryOp}
 use Rattle.c_tree.specs.declared.expr.BinaryOp.TheVariants as binary
 use Rattle.c_tree.specs.declared.stmt.AssignOp.TheVariants as assign
@@ -18,7 +20,7 @@ use Rattle.c_tree.specs.StmtTree as stmt
 use Rattle.c_tree.specs.StmtTree.{SimpleTree, DeclarationTree, InitialTree}
 use Rattle.c_tree.specs.Program.{source_line}
 use Rattle.c_types.specs.Tables.{declared_type, pointed_struct}
-use Rattle.c_types.specs.Expressions.{type_of}
+use Rattle.c_types.specs.Expressions.{type_of, sides_type}
 use Rattle.pool_map.specs.PoolMap.{PoolMap}
 use Rattle.pool_map.specs.declared.trap.TrapKind.TheVariants as trap
 use Rattle.c_meaning.specs.Locals.{Local, value_named, assigned, local_declared as with_declared}
@@ -28,10 +30,12 @@ use Rattle.c_meaning.specs.Meaning as meaning
 use Rattle.c_meaning.specs.Meaning.{Got, Next, Calls, then_do, with_value, or_trap, loaded}
 use Rattle.c_meaning.specs.Meaning.{value_of, pointer_of, operands_of, stored_end, assign_to}
 use Rattle.c_meaning.specs.Meaning.{update, freed, placed_trap, at_target, at_place, located}
+use Rattle.c_meaning.specs.Meaning.{target_local}
 use Rattle.ir.specs.declared.instruction.Target.{Target}
 use Rattle.ir.specs.declared.instruction.Instruction.{Instruction}
 use Rattle.ir.specs.declared.instruction.Instruction.TheVariants.{Copy, Bin, Load, Store, Free}
 use Rattle.ir.specs.declared.function.Ir.{Ir}
+use Rattle.lower.specs.Forms.{operation_of}
 use Rattle.lower.specs.Names.{Variables, register_of, variable_of, struct_kind_at}
 use Rattle.lower.specs.Names.{element_target}
 use Rattle.lower.specs.Lowers.{Context, exp_end, exp_code, reg_of, target_end, target_code}
@@ -46,6 +50,7 @@ use Rattle.lower_law.proofs.Paths.{path_step, path_ends}
 use Rattle.lower_law.proofs.Has.{At, HasAt, exp_has, target_has, or_has}
 use Rattle.lower_law.proofs.Locals.{Entry, Agrees, Holds, AreBelow, Same, entry_register}
 use Rattle.lower_law.proofs.Locals.{value_held, held_after, below_more, scopes_held, register_found}
+use Rattle.lower_law.proofs.Sides.{sides_met}
 use Rattle.lower_law.proofs.Scopes.{AreApart, declared_held, assigned_held}
 use Rattle.lower_law.proofs.Fits.{WordFits, ExpFits}
 use Rattle.lower_law.proofs.StmtFits.{PlaceFits, TargetFits, OrFits, SimpleFits, InitialFits}
@@ -57,18 +62,28 @@ use Rattle.lower_law.proofs.StmtSteps.{local_is, or_value, Runs, value_then, sta
 use Rattle.lower_law.proofs.StmtSteps.{store_runs, free_runs, operands_at}
 
 -- the operation of an update is its operator
-update_same : (o : UpdateOp) (x y : ℤ) → binary_of (update_binary o) x y
-    ≡ word_of (update_operation o) x y
-update_same updating.Mul x y = refl
-update_same updating.Div x y = refl
-update_same updating.Rem x y = refl
-update_same updating.Add x y = refl
-update_same updating.Sub x y = refl
-update_same updating.ShiftLeft x y = refl
-update_same updating.ShiftRight x y = refl
-update_same updating.And x y = refl
-update_same updating.Xor x y = refl
-update_same updating.Or x y = refl
+update_same : (o : UpdateOp) (n : IntType) (x y : ℤ) → binary_of (update_binary o) n x y
+    ≡ word_of (operation_of n (update_operation o)) x y
+update_same updating.Mul Signed x y = refl
+update_same updating.Mul Unsigned x y = refl
+update_same updating.Div Signed x y = refl
+update_same updating.Div Unsigned x y = refl
+update_same updating.Rem Signed x y = refl
+update_same updating.Rem Unsigned x y = refl
+update_same updating.Add Signed x y = refl
+update_same updating.Add Unsigned x y = refl
+update_same updating.Sub Signed x y = refl
+update_same updating.Sub Unsigned x y = refl
+update_same updating.ShiftLeft Signed x y = refl
+update_same updating.ShiftLeft Unsigned x y = refl
+update_same updating.ShiftRight Signed x y = refl
+update_same updating.ShiftRight Unsigned x y = refl
+update_same updating.And Signed x y = refl
+update_same updating.And Unsigned x y = refl
+update_same updating.Xor Signed x y = refl
+update_same updating.Xor Unsigned x y = refl
+update_same updating.Or Signed x y = refl
+update_same updating.Or Unsigned x y = refl
 
 module _ (ir : Ir) (m f : ℕ) (k : Context) (rises : (p q : ℕ) → p < q → k.node p < k.node q)
     (below : List Frame) (calls : Calls) (run : CallsRun k.tables ir m f below calls) where
@@ -315,18 +330,19 @@ module _ (ir : Ir) (m f : ℕ) (k : Context) (rises : (p q : ℕ) → p < q → 
         (held_at p ls regs regs1 s s1 held))))
 
     pub update_runs : (name : Option Ident) (target : ExprTree) (place : ℕ) (b : BinaryOp)
-        (o : BinOp) (value : Option ExprTree) (out again p : ℕ) (rest : List Instruction)
+        (int : IntType) (o : BinOp) (value : Option ExprTree) (out again p : ℕ)
+        (rest : List Instruction)
         (ls : List Local) (L : List Local → List ℤ → Type 0) (regs : List ℤ) (w : PoolMap) (t : ℕ)
-        → ((x y : ℤ) → binary_of b x y ≡ word_of o x y) → Scoped p
+        → ((x y : ℤ) → binary_of b int x y ≡ word_of o x y) → Scoped p
         → TargetFits k ir v es name target
         → OrFits k ir v es value → HasAt ir f p
         (update_code k v name target place o value p ++ rest)
         → Holds es ls regs
         → Runs ir m f k rises below calls run out again (update_end name target value p) p p
         (update_end name target value p) (Holds es) L regs w t
-        (update k.tables calls (option_map (λ (n : Ident). n.text) name) target b place
+        (update k.tables calls (option_map (λ (n : Ident). n.text) name) target b int place
         (λ w t. or_value k calls (pos 1) value ls w t) ls w t)
-    update_runs (Some name) target place b o value out again p rest ls L regs w t same s fits
+    update_runs (Some name) target place b int o value out again p rest ls L regs w t same s fits
         fits1 h held =
         let p1 : ℕ = or_end value p in
         let r : ℕ = register_of name.text v in
@@ -343,7 +359,7 @@ module _ (ir : Ir) (m f : ℕ) (k : Context) (rises : (p q : ℕ) → p < q → 
         register_found v es name.text fits.0 s.agrees fits.1 in
         value_then ir m f k rises below calls run (λ regs y. register_at regs rv ≡ y) out again q p
         p1 q (Holds es) L regs w t (or_value k calls (pos 1) value ls w t)
-        (λ y w t. with_value (or_trap (binary_of b (value_named name.text ls) y)
+        (λ y w t. with_value (or_trap (binary_of b int (value_named name.text ls) y)
         (placed_trap trap.Divide place) w t)
         (λ u w t. Next (assigned name.text u ls) w t)) (omega arith)
         (or_gives (pos 1) value p (i ∷ j ∷ rest) ls regs w t s fits1 ha held)
@@ -355,9 +371,9 @@ module _ (ir : Ir) (m f : ℕ) (k : Context) (rises : (p q : ℕ) → p < q → 
         let go : ℤ → Move = λ u. Goes (Here f (suc p1) (put_register regs1 to u) below w1 t1) in
         value_then ir m f k rises below calls run (λ regs u. register_at regs to ≡ u) out again q p1
         (suc p1) q (Holds es) L regs1 w1 t1
-        (or_trap (binary_of b x y) (placed_trap trap.Divide place) w1 t1)
+        (or_trap (binary_of b int x y) (placed_trap trap.Divide place) w1 t1)
         (λ u w t. Next (assigned name.text u ls) w t) (omega arith)
-        (last_gives ir m f k rises below p1 place (binary_of b x y) regs1 w1 t1
+        (last_gives ir m f k rises below p1 place (binary_of b int x y) regs1 w1 t1
         (ap (λ i. act ir i f p1 regs1 below w1 t1) hi.0
         ∙ ap (λ c. with_word (word_of o c (register_at regs1 rv)) go) ex
         ∙ ap (λ c. with_word (word_of o x c) go) e1 ∙ ap (λ c. with_word c go) (sym (same x y))))
@@ -366,7 +382,7 @@ module _ (ir : Ir) (m f : ℕ) (k : Context) (rises : (p q : ℕ) → p < q → 
         (ap (λ i. act ir i f (suc p1) regs2 below w2 t2) hi.1.0
         ∙ ap (λ c. Goes (Here f q (put_register regs2 c (register_at regs2 to)) below w2 t2))
         found ∙ ap (λ c. Goes (Here f q (put_register regs2 fits.0 c) below w2 t2)) e2)))
-    update_runs None target place b o value out again p rest ls L regs w t same s fits
+    update_runs None target place b int o value out again p rest ls L regs w t same s fits
         fits1 h held =
         let p1 : ℕ = target_end target p in
         let p2 : ℕ = or_end value (suc p1) in
@@ -395,7 +411,7 @@ module _ (ir : Ir) (m f : ℕ) (k : Context) (rises : (p q : ℕ) → p < q → 
         again q p p1 q (Holds es) L regs w t (operands_of k.tables calls target ls w t)
         (λ z w t. with_value (loaded (located k.tables ls w target z.0 z.1) w t)
         (λ x w t. with_value (or_value k calls (pos 1) value ls w t)
-        (λ y w t. with_value (or_trap (binary_of b x y) (placed_trap trap.Divide place) w t)
+        (λ y w t. with_value (or_trap (binary_of b int x y) (placed_trap trap.Divide place) w t)
         (λ u w t. stored_end (located k.tables ls w target z.0 z.1) u ls w t))))
         (omega (arith, le1)) (operands_run target p later ls regs w t s fits ha held)
         (λ z w1 t1 regs1 f1 s1 e1. let held1 : Holds es ls regs1 = held_at p ls regs regs1 s
@@ -404,7 +420,7 @@ module _ (ir : Ir) (m f : ℕ) (k : Context) (rises : (p q : ℕ) → p < q → 
         p1 (suc p1) q (Holds es) L regs1 w1 t1
         (loaded (located k.tables ls w1 target z.0 z.1) w1 t1)
         (λ x w t. with_value (or_value k calls (pos 1) value ls w t)
-        (λ y w t. with_value (or_trap (binary_of b x y) (placed_trap trap.Divide place) w t)
+        (λ y w t. with_value (or_trap (binary_of b int x y) (placed_trap trap.Divide place) w t)
         (λ u w t. stored_end (located k.tables ls w target z.0 z.1) u ls w t))) (omega (arith, le1))
         (field_gives ir m f k rises below es ls p1 target e x z.0 z.1 regs1 w1 t1
         (operands_word target p s fits) e1.0 e1.1 hl.0 held1)
@@ -412,7 +428,7 @@ module _ (ir : Ir) (m f : ℕ) (k : Context) (rises : (p q : ℕ) → p < q → 
         s2 held1 in
         value_then ir m f k rises below calls run (λ regs y. register_at regs rv ≡ y) out again q
         (suc p1) p2 q (Holds es) L regs2 w2 t2 (or_value k calls (pos 1) value ls w2 t2)
-        (λ y w t. with_value (or_trap (binary_of b c y) (placed_trap trap.Divide place) w t)
+        (λ y w t. with_value (or_trap (binary_of b int c y) (placed_trap trap.Divide place) w t)
         (λ u w t. stored_end (located k.tables ls w target z.0 z.1) u ls w t)) (omega arith)
         (or_gives (pos 1) value (suc p1) (i ∷ j ∷ rest) ls regs2 w2 t2 sp2 fits1 hl.1 held2)
         (λ y w3 t3 regs3 f3 s3 e3. let held3 : Holds es ls regs3 = held_at (suc p1) ls regs2 regs3
@@ -421,9 +437,9 @@ module _ (ir : Ir) (m f : ℕ) (k : Context) (rises : (p q : ℕ) → p < q → 
         let go : ℤ → Move = λ u. Goes (Here f (suc p2) (put_register regs3 to u) below w3 t3) in
         value_then ir m f k rises below calls run (λ regs u. register_at regs to ≡ u) out again q p2
         (suc p2) q (Holds es) L regs3 w3 t3
-        (or_trap (binary_of b c y) (placed_trap trap.Divide place) w3 t3)
+        (or_trap (binary_of b int c y) (placed_trap trap.Divide place) w3 t3)
         (λ u w t. stored_end (located k.tables ls w target z.0 z.1) u ls w t) (omega arith)
-        (last_gives ir m f k rises below p2 place (binary_of b c y) regs3 w3 t3
+        (last_gives ir m f k rises below p2 place (binary_of b int c y) regs3 w3 t3
         (ap (λ i. act ir i f p2 regs3 below w3 t3) hi.0
         ∙ ap (λ d. with_word (word_of o d (register_at regs3 rv)) go) ec
         ∙ ap (λ d. with_word (word_of o c d) go) e3 ∙ ap (λ d. with_word d go) (sym (same c y))))
@@ -451,34 +467,43 @@ module _ (ir : Ir) (m f : ℕ) (k : Context) (rises : (p q : ℕ) → p < q → 
         fits.1 h held)
     simple_runs (stmt.Assign target (assign.Update o) place value) out again p rest ls L regs w t s
         fits h held =
-        subst (λ (name : Option (List ℕ)).
+        let b : BinaryOp = update_binary o in
+        let n : IntType = sides_type k.tables v.scopes b target value in
+        subst (λ (int : IntType).
         Runs ir m f k rises below calls run out again
         (update_end (variable_of target) target (Some value) p) p p
         (update_end (variable_of target) target (Some value) p) (Holds es) L regs w t
-        (update k.tables calls name target (update_binary o) place
+        (update k.tables calls (target_local target) target b int place
+        (λ w t. value_of k.tables calls value ls w t) ls w t))
+        (sym (sides_met k.tables v es ls s.agrees (scopes_held es ls regs held) b target value))
+        (subst (λ (name : Option (List ℕ)).
+        Runs ir m f k rises below calls run out again
+        (update_end (variable_of target) target (Some value) p) p p
+        (update_end (variable_of target) target (Some value) p) (Holds es) L regs w t
+        (update k.tables calls name target b n place
         (λ w t. value_of k.tables calls value ls w t)
         ls w t)) (sym (local_is target))
-        (update_runs (variable_of target) target place (update_binary o) (update_operation o)
-        (Some value) out again p rest ls L regs w t (update_same o) s fits.0 fits.1 h held)
+        (update_runs (variable_of target) target place b n (operation_of n (update_operation o))
+        (Some value) out again p rest ls L regs w t (update_same o n) s fits.0 fits.1 h held))
     simple_runs (stmt.Step target stepping.Up place) out again p rest ls L regs w t s fits h held =
         subst (λ (o : Option (List ℕ)).
         Runs ir m f k rises below calls run out again
         (update_end (variable_of target) target None p) p p
         (update_end (variable_of target) target None p) (Holds es) L regs w t
-        (update k.tables calls o target binary.Add place (λ w t. Got (pos 1) w t) ls w t))
+        (update k.tables calls o target binary.Add Signed place (λ w t. Got (pos 1) w t) ls w t))
         (sym (local_is target))
-        (update_runs (variable_of target) target place binary.Add op.Add None out again p rest ls L
-        regs w t (λ x y. refl) s fits tt h held)
+        (update_runs (variable_of target) target place binary.Add Signed op.Add None out again p
+        rest ls L regs w t (λ x y. refl) s fits tt h held)
     simple_runs (stmt.Step target stepping.Down place) out again p rest ls L regs w t s
         fits h held =
         subst (λ (o : Option (List ℕ)).
         Runs ir m f k rises below calls run out again
         (update_end (variable_of target) target None p) p p
         (update_end (variable_of target) target None p) (Holds es) L regs w t
-        (update k.tables calls o target binary.Sub place (λ w t. Got (pos 1) w t) ls w t))
+        (update k.tables calls o target binary.Sub Signed place (λ w t. Got (pos 1) w t) ls w t))
         (sym (local_is target))
-        (update_runs (variable_of target) target place binary.Sub op.Sub None out again p rest ls L
-        regs w t (λ x y. refl) s fits tt h held)
+        (update_runs (variable_of target) target place binary.Sub Signed op.Sub None out again p
+        rest ls L regs w t (λ x y. refl) s fits tt h held)
     simple_runs (stmt.Call name all) out again p rest ls L regs w t s fits h held =
         let q : ℕ = exp_end (expr.Call name all) p in
         value_then ir m f k rises below calls run (λ regs x. register_at regs (k.node q) ≡ x) out

@@ -5,8 +5,10 @@ use Rattle.std.specs.Prelude.{Option, None, Some, Result, Ok, Err, slice_get, if
 use Rattle.c_tree.specs.ExprTree.{ExprTree, Arguments, Ident}
 use Rattle.c_tree.specs.ExprTree as expr
 use Rattle.c_tree.specs.ItemTree.{FunctionTree, ParameterTree}
+use Rattle.c_tree.specs.declared.expr.IntType.{IntType}
 use Rattle.c_tree.specs.declared.expr.BinaryOp.{BinaryOp}
 use Rattle.c_tree.specs.declared.expr.BinaryOp.TheVariants as binary
+use Rattle.c_types.specs.Expressions.{sides_type}
 use Rattle.c_types.specs.Tables.{Tables, function_named}
 use Rattle.c_types.specs.Shapes.{shapes_in}
 use Rattle.pool_map.specs.declared.trap.TrapKind.TheVariants as trap
@@ -70,12 +72,13 @@ module _ (t : Tables) where
   or_trap_leaves None stop p k fits = tt
   or_trap_leaves (Some v) stop p k fits = fits
 
-  strict_leaves : (op : BinaryOp) (place : ℕ) (a : Out ℤ) (b : PoolMap → ℕ → Out ℤ) → Leaves a
-      → ((p : PoolMap) (k : ℕ) → Fits p → Leaves (b p k)) → Leaves (strict op place a b)
-  strict_leaves op place a b left right =
+  strict_leaves : (op : BinaryOp) (n : IntType) (place : ℕ) (a : Out ℤ)
+      (b : PoolMap → ℕ → Out ℤ) → Leaves a
+      → ((p : PoolMap) (k : ℕ) → Fits p → Leaves (b p k)) → Leaves (strict op n place a b)
+  strict_leaves op n place a b left right =
       after_do a _ (λ v p k. Fits p) (λ v p k. Fits p) left
       (λ x p k fits. after_do (b p k) _ (λ v p k. Fits p) (λ v p k. Fits p) (right p k fits)
-      (λ y p k fits. or_trap_leaves (binary_of op x y) (placed_trap trap.Divide place) p k fits))
+      (λ y p k fits. or_trap_leaves (binary_of op n x y) (placed_trap trap.Divide place) p k fits))
 
   zero_leaves : (c : Bool) (a b : Out ℤ) → Leaves a → Leaves b → Leaves (if c then a else b)
   zero_leaves true a b left right = left
@@ -97,32 +100,35 @@ module _ (t : Tables) where
       (λ x p k fits. zero_leaves (is_zero x) _ (Got (pos 1) p k)
       (truth_leaves (b p k) (right p k fits)) fits)
 
-  binary_leaves : (op : BinaryOp) (place : ℕ) (a : Out ℤ) (b : PoolMap → ℕ → Out ℤ) → Leaves a
-      → ((p : PoolMap) (k : ℕ) → Fits p → Leaves (b p k)) → Leaves (binary_means op place a b)
-  binary_leaves binary.Both place a b left right = both_leaves a b left right
-  binary_leaves binary.Either place a b left right = either_leaves a b left right
-  binary_leaves binary.Mul place a b left right = strict_leaves binary.Mul place a b left right
-  binary_leaves binary.Div place a b left right = strict_leaves binary.Div place a b left right
-  binary_leaves binary.Rem place a b left right = strict_leaves binary.Rem place a b left right
-  binary_leaves binary.Add place a b left right = strict_leaves binary.Add place a b left right
-  binary_leaves binary.Sub place a b left right = strict_leaves binary.Sub place a b left right
-  binary_leaves binary.ShiftLeft place a b left right =
-      strict_leaves binary.ShiftLeft place a b left right
-  binary_leaves binary.ShiftRight place a b left right =
-      strict_leaves binary.ShiftRight place a b left right
-  binary_leaves binary.Less place a b left right = strict_leaves binary.Less place a b left right
-  binary_leaves binary.LessEqual place a b left right =
-      strict_leaves binary.LessEqual place a b left right
-  binary_leaves binary.Greater place a b left right =
-      strict_leaves binary.Greater place a b left right
-  binary_leaves binary.GreaterEqual place a b left right =
-      strict_leaves binary.GreaterEqual place a b left right
-  binary_leaves binary.Equal place a b left right = strict_leaves binary.Equal place a b left right
-  binary_leaves binary.NotEqual place a b left right =
-      strict_leaves binary.NotEqual place a b left right
-  binary_leaves binary.And place a b left right = strict_leaves binary.And place a b left right
-  binary_leaves binary.Xor place a b left right = strict_leaves binary.Xor place a b left right
-  binary_leaves binary.Or place a b left right = strict_leaves binary.Or place a b left right
+  binary_leaves : (op : BinaryOp) (n : IntType) (place : ℕ) (a : Out ℤ)
+      (b : PoolMap → ℕ → Out ℤ) → Leaves a
+      → ((p : PoolMap) (k : ℕ) → Fits p → Leaves (b p k)) → Leaves (binary_means op n place a b)
+  binary_leaves binary.Both n place a b left right = both_leaves a b left right
+  binary_leaves binary.Either n place a b left right = either_leaves a b left right
+  binary_leaves binary.Mul n place a b left right = strict_leaves binary.Mul n place a b left right
+  binary_leaves binary.Div n place a b left right = strict_leaves binary.Div n place a b left right
+  binary_leaves binary.Rem n place a b left right = strict_leaves binary.Rem n place a b left right
+  binary_leaves binary.Add n place a b left right = strict_leaves binary.Add n place a b left right
+  binary_leaves binary.Sub n place a b left right = strict_leaves binary.Sub n place a b left right
+  binary_leaves binary.ShiftLeft n place a b left right =
+      strict_leaves binary.ShiftLeft n place a b left right
+  binary_leaves binary.ShiftRight n place a b left right =
+      strict_leaves binary.ShiftRight n place a b left right
+  binary_leaves binary.Less n place a b left right =
+      strict_leaves binary.Less n place a b left right
+  binary_leaves binary.LessEqual n place a b left right =
+      strict_leaves binary.LessEqual n place a b left right
+  binary_leaves binary.Greater n place a b left right =
+      strict_leaves binary.Greater n place a b left right
+  binary_leaves binary.GreaterEqual n place a b left right =
+      strict_leaves binary.GreaterEqual n place a b left right
+  binary_leaves binary.Equal n place a b left right =
+      strict_leaves binary.Equal n place a b left right
+  binary_leaves binary.NotEqual n place a b left right =
+      strict_leaves binary.NotEqual n place a b left right
+  binary_leaves binary.And n place a b left right = strict_leaves binary.And n place a b left right
+  binary_leaves binary.Xor n place a b left right = strict_leaves binary.Xor n place a b left right
+  binary_leaves binary.Or n place a b left right = strict_leaves binary.Or n place a b left right
 
   module _ (sane : IsSane t) (typed : IsWellTyped t) (calls : Calls)
       (found : FunctionTree → List ℤ → PoolMap → ℕ → Type 0) where
@@ -228,36 +234,37 @@ module _ (t : Tables) where
                     (λ v p k. Finds t calls found i ls p k × Past (value_of t calls i ls p k)
                     (λ j p k. FindsWord t ls p a v (Some j))) b.1
                     (λ v p k fits. (
-                      (exp_sound i Number p k h.1 fits).0,
+                      (exp_sound i (Number h.1) p k h.2 fits).0,
                       after_more (value_of t calls i ls p k) (λ v p k. Fits p)
                           (λ j p k. FindsWord t ls p a v (Some j))
-                          (exp_sound i Number p k h.1 fits).1
+                          (exp_sound i (Number h.1) p k h.2 fits).1
                           (λ j p k fits. element_finds a x p v j h.0 fits),
                     )),
               ),
               after_do (pointer_of t calls a ls p k) _ (λ v p k. Fits p) (λ v p k. Fits p) b.1
                   (λ v p k fits. after_do (value_of t calls i ls p k) _ (λ v p k. Fits p)
-                  (λ v p k. Fits p) (exp_sound i Number p k h.1 fits).1
+                  (λ v p k. Fits p) (exp_sound i (Number h.1) p k h.2 fits).1
                   (λ j p k fits. loaded_leaves (located t ls p (expr.Index a place i) v (Some j))
                   p k fits)),
             )
         exp_sound (expr.Unary op place a) x p k h fits =
-            let r = exp_sound a h.1 p k h.2 fits in (
+            let r = exp_sound a h.0 p k h.1 fits in (
               r.0,
               after_do (value_of t calls a ls p k) _ (λ v p k. Fits p) (λ v p k. Fits p) r.1
                   (λ v p k fits. fits),
             )
         exp_sound (expr.Binary op place a b) x p k h fits =
-            let r = exp_sound a h.1 p k h.3 fits in (
+            let r = exp_sound a h.0 p k h.2 fits in (
               (
                 r.0,
                 after_more (value_of t calls a ls p k) (λ v p k. Fits p)
                     (λ v p k. goes_right op v ≡ true → Finds t calls found b ls p k) r.1
-                    (λ v p k fits e. (exp_sound b h.2 p k h.4 fits).0),
+                    (λ v p k fits e. (exp_sound b h.1 p k h.3 fits).0),
               ),
-              binary_leaves op place (value_of t calls a ls p k)
+              binary_leaves op (sides_type t (scopes_of ls) op a b) place
+                  (value_of t calls a ls p k)
                   (λ p k. value_of t calls b ls p k) r.1
-                  (λ p k fits. (exp_sound b h.2 p k h.4 fits).1),
+                  (λ p k fits. (exp_sound b h.1 p k h.3 fits).1),
             )
         exp_sound (expr.Conditional c place a b) x p k h fits =
             let r = exp_sound c h.0 p k h.1 fits in (

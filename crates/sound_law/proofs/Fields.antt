@@ -46,7 +46,7 @@ use Rattle.sound_law.proofs.Words.{Below, placed, member, word_below}
 
 -- a pointer's struct is there, and small
 abbrev pub IsSmall : Tables → StaticType → Type 0
-IsSmall t Number = Unit {0}
+IsSmall t (Number n) = Unit {0}
 IsSmall t NullPointer = Unit {0}
 IsSmall t (PointerTo i) = (s : StructTree) × (slice_get t.structs i ≡ Some s)
     × (words_of_struct s ≤ 15)
@@ -61,7 +61,7 @@ pointer_small t name x h =
     rw h.is (there.0, there.1, small)
 
 pub written_small : (t : Tables) (ty : TypeTree) (x : StaticType) → IsWritten t ty x → IsSmall t x
-written_small t stmt.Int x h = rw h tt
+written_small t (stmt.Int n) x h = rw h tt
 written_small t (stmt.Pointer name) x h = pointer_small t name.text x h
 
 -- a field that is there, used as it must be

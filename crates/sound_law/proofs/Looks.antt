@@ -11,12 +11,15 @@ use Rattle.c_tree.specs.StmtTree.{InitialTree}
 use Rattle.c_tree.specs.StmtTree as stmt
 use Rattle.c_tree.specs.ItemTree.{FunctionTree}
 use Rattle.c_tree.specs.Operators.{update_binary}
+use Rattle.c_tree.specs.declared.expr.IntType.{IntType}
+use Rattle.c_tree.specs.declared.expr.IntType.TheVariants.{Signed}
 use Rattle.c_tree.specs.declared.expr.BinaryOp.{BinaryOp}
 use Rattle.c_tree.specs.declared.expr.BinaryOp.TheVariants as binary
 use Rattle.c_tree.specs.declared.stmt.AssignOp.{AssignOp}
 use Rattle.c_tree.specs.declared.stmt.AssignOp.TheVariants as assign
 use Rattle.c_tree.specs.declared.stmt.StepOp.{StepOp}
 use Rattle.c_tree.specs.declared.stmt.StepOp.TheVariants as step
+use Rattle.c_types.specs.Expressions.{sides_type}
 use Rattle.c_types.specs.Tables.{Tables, function_named}
 use Rattle.c_types.specs.Looking.{is_known, is_variable, exp_stores, arguments_store, value_stores}
 use Rattle.c_types.specs.Looking.{simple_stores, declaration_stores, first_stores, statement_stores}
@@ -26,7 +29,7 @@ use Rattle.pool_map.specs.Checks.{is_zero}
 use Rattle.pool_map.specs.declared.trap.TrapKind.TheVariants as trap
 use Rattle.pool_map.specs.declared.word.PoolWord.{PoolWord}
 use Rattle.c_meaning.specs.declared.trap_at.TrapAt.{TrapAt}
-use Rattle.c_meaning.specs.Locals.{Local, value_named, bound}
+use Rattle.c_meaning.specs.Locals.{Local, scopes_of, value_named, bound}
 use Rattle.c_meaning.specs.Operators.{binary_of}
 use Rattle.c_meaning.specs.Meaning.{Out, Got, Stops, StmtEnd, Next, Broke, Again, Gave, Traps}
 use Rattle.c_meaning.specs.Meaning.{Calls, then_do, with_value, then_next, after_turn, in_scope}
@@ -87,11 +90,11 @@ module _ (w : PoolMap) where
 
   module _ (a : Out ℤ) (b : PoolMap → ℕ → Out ℤ) (left : Stays a)
       (right : (p : PoolMap) (k : ℕ) → p ≡ w → Stays (b p k)) where
-    strict_stays : (op : BinaryOp) (place : ℕ) → Stays (strict op place a b)
-    strict_stays op place =
+    strict_stays : (op : BinaryOp) (n : IntType) (place : ℕ) → Stays (strict op n place a b)
+    strict_stays op n place =
         and_then a _ left (λ x p k same. and_then (b p k) _ (right p k same)
         (λ y q j still.
-        or_trap_stays (binary_of op x y) (placed_trap trap.Divide place) q j still))
+        or_trap_stays (binary_of op n x y) (placed_trap trap.Divide place) q j still))
 
     both_stays : Stays (both a b)
     both_stays = and_then a _ left (λ x p k same. zero_stays (is_zero x) (Got (pos 0) p k) _ same
@@ -101,25 +104,25 @@ module _ (w : PoolMap) where
     either_stays = and_then a _ left (λ x p k same. zero_stays (is_zero x) _ (Got (pos 1) p k)
         (truth_stays (b p k) (right p k same)) same)
 
-    binary_stays : (op : BinaryOp) (place : ℕ) → Stays (binary_means op place a b)
-    binary_stays binary.Both place = both_stays
-    binary_stays binary.Either place = either_stays
-    binary_stays binary.Mul place = strict_stays binary.Mul place
-    binary_stays binary.Div place = strict_stays binary.Div place
-    binary_stays binary.Rem place = strict_stays binary.Rem place
-    binary_stays binary.Add place = strict_stays binary.Add place
-    binary_stays binary.Sub place = strict_stays binary.Sub place
-    binary_stays binary.ShiftLeft place = strict_stays binary.ShiftLeft place
-    binary_stays binary.ShiftRight place = strict_stays binary.ShiftRight place
-    binary_stays binary.Less place = strict_stays binary.Less place
-    binary_stays binary.LessEqual place = strict_stays binary.LessEqual place
-    binary_stays binary.Greater place = strict_stays binary.Greater place
-    binary_stays binary.GreaterEqual place = strict_stays binary.GreaterEqual place
-    binary_stays binary.Equal place = strict_stays binary.Equal place
-    binary_stays binary.NotEqual place = strict_stays binary.NotEqual place
-    binary_stays binary.And place = strict_stays binary.And place
-    binary_stays binary.Xor place = strict_stays binary.Xor place
-    binary_stays binary.Or place = strict_stays binary.Or place
+    binary_stays : (op : BinaryOp) (n : IntType) (place : ℕ) → Stays (binary_means op n place a b)
+    binary_stays binary.Both n place = both_stays
+    binary_stays binary.Either n place = either_stays
+    binary_stays binary.Mul n place = strict_stays binary.Mul n place
+    binary_stays binary.Div n place = strict_stays binary.Div n place
+    binary_stays binary.Rem n place = strict_stays binary.Rem n place
+    binary_stays binary.Add n place = strict_stays binary.Add n place
+    binary_stays binary.Sub n place = strict_stays binary.Sub n place
+    binary_stays binary.ShiftLeft n place = strict_stays binary.ShiftLeft n place
+    binary_stays binary.ShiftRight n place = strict_stays binary.ShiftRight n place
+    binary_stays binary.Less n place = strict_stays binary.Less n place
+    binary_stays binary.LessEqual n place = strict_stays binary.LessEqual n place
+    binary_stays binary.Greater n place = strict_stays binary.Greater n place
+    binary_stays binary.GreaterEqual n place = strict_stays binary.GreaterEqual n place
+    binary_stays binary.Equal n place = strict_stays binary.Equal n place
+    binary_stays binary.NotEqual n place = strict_stays binary.NotEqual n place
+    binary_stays binary.And n place = strict_stays binary.And n place
+    binary_stays binary.Xor n place = strict_stays binary.Xor n place
+    binary_stays binary.Or n place = strict_stays binary.Or n place
 
   -- ends of statements
 
@@ -247,7 +250,7 @@ module _ (w : PoolMap) where
           let parts = neither (exp_stores t known a) (exp_stores t known b) none in
           binary_stays (value_of t calls a ls p k) (λ p k. value_of t calls b ls p k)
           (exp_stays a ls p k parts.0 same) (λ q j still. exp_stays b ls q j parts.1 still) op
-          place
+          (sides_type t (scopes_of ls) op a b) place
       exp_stays (expr.Conditional c place a b) ls p k none same =
           let parts = neither (exp_stores t known c)
           (exp_stores t known a || exp_stores t known b) none in
@@ -300,17 +303,18 @@ module _ (w : PoolMap) where
 
     module _ (target : ExprTree) (place : ℕ) (ls : List Local) (p : PoolMap) (k : ℕ)
         (local : not (is_variable target) ≡ false) where
-      update_stays : (op : BinaryOp) (right : PoolMap → ℕ → Out ℤ) → Stays (right p k)
-          → EndStays (update t calls (target_local target) target op place right ls p k)
-      update_stays op right h =
+      update_stays : (op : BinaryOp) (int : IntType) (right : PoolMap → ℕ → Out ℤ)
+          → Stays (right p k)
+          → EndStays (update t calls (target_local target) target op int place right ls p k)
+      update_stays op int right h =
           let named = target_is target local in
-          subst (λ (o : Option (List ℕ)). EndStays (update t calls o target op place right ls p k))
-          (sym named.1)
+          subst (λ (o : Option (List ℕ)).
+          EndStays (update t calls o target op int place right ls p k)) (sym named.1)
           (value_stays (right p k) _ h (λ y q j still.
-          value_stays (or_trap (binary_of op (value_named named.0 ls) y)
+          value_stays (or_trap (binary_of op int (value_named named.0 ls) y)
           (placed_trap trap.Divide place) q j) _
-          (or_trap_stays (binary_of op (value_named named.0 ls) y) (placed_trap trap.Divide place)
-          q j still) (λ v r m yet. yet)))
+          (or_trap_stays (binary_of op int (value_named named.0 ls) y)
+          (placed_trap trap.Divide place) q j still) (λ v r m yet. yet)))
 
       assign_stays : (op : AssignOp) (e : ExprTree) → exp_stores t known e ≡ false → p ≡ w
           → EndStays (assign_end t calls op place target e ls p k)
@@ -321,12 +325,14 @@ module _ (w : PoolMap) where
           (value_stays (value_of t calls e ls p k) _ (exp_stays e ls p k none same)
           (λ v q j still. still))
       assign_stays (assign.Update op) e none same =
-          update_stays (update_binary op) (λ p k. value_of t calls e ls p k)
+          update_stays (update_binary op)
+          (sides_type t (scopes_of ls) (update_binary op) target e)
+          (λ p k. value_of t calls e ls p k)
           (exp_stays e ls p k none same)
 
       step_stays : (op : StepOp) → p ≡ w → EndStays (steps t calls op place target ls p k)
-      step_stays step.Up same = update_stays binary.Add (λ p k. Got (pos 1) p k) same
-      step_stays step.Down same = update_stays binary.Sub (λ p k. Got (pos 1) p k) same
+      step_stays step.Up same = update_stays binary.Add Signed (λ p k. Got (pos 1) p k) same
+      step_stays step.Down same = update_stays binary.Sub Signed (λ p k. Got (pos 1) p k) same
 
     simple_stays : (x : SimpleTree) (ls : List Local) (p : PoolMap) (k : ℕ)
         → simple_stores t known x ≡ false → p ≡ w → EndStays (end_of_simple t calls x ls p k)

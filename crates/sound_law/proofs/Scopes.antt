@@ -1,19 +1,24 @@
 -- The locals of the meaning and the scopes of the rules.
 use Rattle.std.proofs.Common.{◌≡◌, ℕ, suc, Bool, true, false, List, [], ◌∷◌}
-use Rattle.std.proofs.Common.{refl, sym, ◌∙◌, subst, ◌⊎◌, inl, inr, ⊎_elim}
+use Rattle.std.proofs.Common.{refl, sym, ◌∙◌, subst, ◌⊎◌, inl, inr}
 use Rattle.std.specs.Prelude.{Option, None, Some, if◌then◌else◌, option_map}
 use Rattle.std.specs.Prelude.{option_and_then, slice_get, bytes_eq}
 use Rattle.std.proofs.lemmas.Option.{none-some, same_Some}
+use Rattle.c_tree.specs.declared.expr.IntType.{IntType}
+use Rattle.c_tree.specs.declared.expr.UnaryOp.{UnaryOp}
+use Rattle.c_tree.specs.declared.expr.UnaryOp.TheVariants as unary
 use Rattle.c_tree.specs.ExprTree.{ExprTree, Arguments}
 use Rattle.c_tree.specs.ExprTree as expr
 use Rattle.c_tree.specs.ItemTree.{ParameterTree}
 use Rattle.c_types.specs.declared.value_type.ValueType.{ValueType}
+use Rattle.c_types.specs.declared.value_type.ValueType.TheVariants.{Int}
 use Rattle.c_types.specs.Tables.{Tables}
 use Rattle.c_types.specs.Expressions.{Scope, or_else, variable_type}
 use Rattle.c_meaning.specs.Locals.{Local, scopes_of}
 use Rattle.rules_law.specs.typed.Types.{StaticType, Number, PointerTo, NullPointer, value_type}
-use Rattle.rules_law.specs.typed.Types.{AcceptsType}
+use Rattle.rules_law.specs.typed.Types.{Applies, GivesUnary, HaveInCommon, Unites}
 use Rattle.rules_law.specs.typed.Expressions.{HasType, IsArray, ArePassed}
+use Rattle.rules_law.proofs.typed.Fitting.{binary_answer}
 use Rattle.sound_law.specs.Places.{IsLocal}
 use Rattle.sound_law.proofs.Fields.{IsSmall, pointer_small, written_small}
 
@@ -60,13 +65,13 @@ AreSmall t [] = Unit {0}
 AreSmall t (s ∷ ss) = AreSmallTypes t s.types × AreSmall t ss
 
 same_type : (x y : StaticType) → value_type x ≡ value_type y → x ≡ y
-same_type Number Number e = refl
-same_type Number (PointerTo j) e = cc
-same_type Number NullPointer e = cc
-same_type (PointerTo i) Number e = cc
+same_type (Number n) (Number m) e = cc
+same_type (Number n) (PointerTo j) e = cc
+same_type (Number n) NullPointer e = cc
+same_type (PointerTo i) (Number n) e = cc
 same_type (PointerTo i) (PointerTo j) e = cc
 same_type (PointerTo i) NullPointer e = cc
-same_type NullPointer Number e = cc
+same_type NullPointer (Number n) e = cc
 same_type NullPointer (PointerTo j) e = cc
 same_type NullPointer NullPointer e = refl
 
@@ -88,6 +93,32 @@ local_small t name ls x all e = there ls all (sym (scopes_type name ls) ∙ e)
             → (if b then Some l.ty else local_type name ls) ≡ Some (value_type x) → IsSmall t x
         by_test true rest e = own e
         by_test false rest e = rest e
+
+-- numbers are no pointers
+int_small : (t : Tables) (n : IntType) (x : StaticType) → Int n ≡ value_type x → IsSmall t x
+int_small t n (Number m) e = tt
+int_small t n (PointerTo i) e = absurd (cc e)
+int_small t n NullPointer e = tt
+
+unary_small : (t : Tables) (op : UnaryOp) (y x : StaticType) → Applies op y → GivesUnary op y x
+    → IsSmall t x
+unary_small t unary.Not y x h g = rw g tt
+unary_small t unary.Negate y x h g = rw (g, h.1) tt
+unary_small t unary.Complement y x h g = rw (g, h.1) tt
+unary_small t (unary.Cast n) y x h g = rw g tt
+
+common_small : (t : Tables) (y z x : StaticType) → HaveInCommon y z x → IsSmall t x
+common_small t y z x (inl h) = rw h.1 tt
+common_small t y z x (inr h) = rw h.2 tt
+
+-- the type of both sides of `?` is that of one side, or a number's
+united_small : (t : Tables) (y z x : StaticType) → Unites y z x → IsSmall t y → IsSmall t z
+    → IsSmall t x
+united_small t (Number n) z x h left right = common_small t (Number n) z x h.0
+united_small t (PointerTo i) z x (inl h) left right = rw h.0 left
+united_small t (PointerTo i) z x (inr h) left right = rw h.0 right
+united_small t NullPointer z x (inl h) left right = rw h.0 left
+united_small t NullPointer z x (inr h) left right = rw h.0 right
 
 -- a pointer that an expression gives leads to a small struct
 pub type_small : (t : Tables) (ls : List Local) (e : ExprTree) (x : StaticType)
@@ -113,11 +144,11 @@ type_small t ls (expr.Index base place index) x all h = array_small base h.0
     array_small (expr.Unary op place a) h = absurd h
     array_small (expr.Binary op place a b) h = absurd h
     array_small (expr.Conditional c place a b) h = absurd h
-type_small t ls (expr.Unary op place a) x all h = rw h.0 tt
-type_small t ls (expr.Binary op place a b) x all h = rw h.0 tt
+type_small t ls (expr.Unary op place a) x all h = unary_small t op h.0 x h.2 h.3
+type_small t ls (expr.Binary op place a b) x all h =
+    int_small t _ x (binary_answer op h.0 h.1 x h.4 h.5)
 type_small t ls (expr.Conditional c place a b) x all h =
-    ⊎_elim (λ (g : (x ≡ h.2) × AcceptsType h.2 h.3). rw g.0 (type_small t ls a h.2 all h.4))
-    (λ (g : (x ≡ h.3) × AcceptsType h.3 h.2). rw g.0 (type_small t ls b h.3 all h.5)) h.6
+    united_small t h.2 h.3 x h.6 (type_small t ls a h.2 all h.4) (type_small t ls b h.3 all h.5)
 type_small t ls (expr.Call name args) x all h = written_small t h.1 x h.3
 
 -- each name means the same in both scopes, so each expression has the same types
@@ -135,11 +166,11 @@ mutual
   type_moved t s u (expr.Arrow base place name) x same h =
       (h.0, type_moved t s u base (PointerTo h.0) same h.1, h.2)
   type_moved t s u (expr.Index base place index) x same h =
-      (array_moved t s u base x same h.0, type_moved t s u index Number same h.1)
+      (array_moved t s u base x same h.0, h.1, type_moved t s u index (Number h.1) same h.2)
   type_moved t s u (expr.Unary op place a) x same h =
-      (h.0, h.1, type_moved t s u a h.1 same h.2, h.3)
+      (h.0, type_moved t s u a h.0 same h.1, h.2, h.3)
   type_moved t s u (expr.Binary op place a b) x same h =
-      (h.0, h.1, h.2, type_moved t s u a h.1 same h.3, type_moved t s u b h.2 same h.4, h.5)
+      (h.0, h.1, type_moved t s u a h.0 same h.2, type_moved t s u b h.1 same h.3, h.4, h.5)
   type_moved t s u (expr.Conditional c place a b) x same h = (
     h.0,
     type_moved t s u c h.0 same h.1,

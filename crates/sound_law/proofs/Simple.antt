@@ -9,13 +9,15 @@ use Rattle.c_tree.specs.ExprTree as expr
 use Rattle.c_tree.specs.StmtTree.{SimpleTree, InitialTree}
 use Rattle.c_tree.specs.StmtTree as stmt
 use Rattle.c_tree.specs.ItemTree.{FunctionTree}
+use Rattle.c_tree.specs.declared.expr.IntType.{IntType}
+use Rattle.c_tree.specs.declared.expr.IntType.TheVariants.{Signed}
 use Rattle.c_tree.specs.declared.expr.BinaryOp.{BinaryOp}
 use Rattle.c_tree.specs.declared.expr.BinaryOp.TheVariants as binary
 use Rattle.c_tree.specs.declared.stmt.AssignOp.TheVariants as assign
 use Rattle.c_tree.specs.declared.stmt.StepOp.TheVariants as step
 use Rattle.c_tree.specs.Operators.{update_binary}
 use Rattle.c_types.specs.Tables.{Tables}
-use Rattle.c_types.specs.Expressions.{Scope}
+use Rattle.c_types.specs.Expressions.{Scope, sides_type}
 use Rattle.c_types.specs.Shapes.{shapes_in}
 use Rattle.pool_map.specs.declared.trap.TrapKind.{TrapKind}
 use Rattle.pool_map.specs.declared.trap.TrapKind.TheVariants as trap
@@ -92,13 +94,13 @@ module _ (t : Tables) (sane : IsSane t) (typed : IsWellTyped t) (calls : Calls)
           after_more (pointer_of t calls a ls p k) (λ v p k. Fits t p)
               (λ v p k. Finds t calls found i ls p k) b.1
               (λ v p k fits.
-              (exp_sound t sane typed calls found sound ls small i Number p k h.1 fits).0),
+              (exp_sound t sane typed calls found sound ls small i (Number h.1) p k h.2 fits).0),
         ),
         after_do (pointer_of t calls a ls p k) _ (λ v p k. Fits t p)
             (λ o p k. Fits t p × IsTarget (expr.Index a place i) o) b.1
             (λ v p k fits. after_do (value_of t calls i ls p k) _ (λ j p k. Fits t p)
             (λ o p k. Fits t p × IsTarget (expr.Index a place i) o)
-            (exp_sound t sane typed calls found sound ls small i Number p k h.1 fits).1
+            (exp_sound t sane typed calls found sound ls small i (Number h.1) p k h.2 fits).1
             (λ j p k fits. (
               fits,
               (λ p fits. element_finds t sane typed calls found sound ls small a x p v j h.0 fits),
@@ -172,24 +174,25 @@ module _ (t : Tables) (sane : IsSane t) (typed : IsWellTyped t) (calls : Calls)
             (λ v p k fits. stored_ends (located t ls p target o.0 o.1) v p k fits)),
       )
 
-  update_sound : (o : Option (List ℕ)) (target : ExprTree) (op : BinaryOp) (place : ℕ)
-      (right : PoolMap → ℕ → Out ℤ) (Right : PoolMap → ℕ → Type 0) (x : StaticType)
+  update_sound : (o : Option (List ℕ)) (target : ExprTree) (op : BinaryOp) (int : IntType)
+      (place : ℕ) (right : PoolMap → ℕ → Out ℤ) (Right : PoolMap → ℕ → Type 0) (x : StaticType)
       (p : PoolMap) (k : ℕ) → target_local target ≡ o → IsAssignable target
       → HasType t (scopes_of ls) target x
       → ((p : PoolMap) (k : ℕ) → Fits t p → Right p k × Leaves t (right p k)) → Fits t p
-      → UpdateFinds t calls found o target op place right Right ls p k
-      × Ends (update t calls o target op place right ls p k)
-  update_sound (Some name) target op place right Right x p k is good h each fits = (
+      → UpdateFinds t calls found o target op int place right Right ls p k
+      × Ends (update t calls o target op int place right ls p k)
+  update_sound (Some name) target op int place right Right x p k is good h each fits = (
     (target_there target name x is h, (each p k fits).0),
     value_then (right p k) _ (λ v p k. Fits t p) (each p k fits).1
         (λ y p k fits. value_then
-        (or_trap (binary_of op (value_named name ls) y) (placed_trap trap.Divide place) p k) _
+        (or_trap (binary_of op int (value_named name ls) y) (placed_trap trap.Divide place) p k) _
         (λ v p k. Fits t p)
-        (or_trap_leaves t (binary_of op (value_named name ls) y) (placed_trap trap.Divide place) p k
+        (or_trap_leaves t (binary_of op int (value_named name ls) y)
+        (placed_trap trap.Divide place) p k
         fits)
         (λ v p k fits. (assigned_scopes name v ls, fits))),
   )
-  update_sound None target op place right Right x p k is good h each fits =
+  update_sound None target op int place right Right x p k is good h each fits =
       let o = operands_sound target x p k good is h fits in (
         (
           o.0,
@@ -204,9 +207,9 @@ module _ (t : Tables) (sane : IsSane t) (typed : IsWellTyped t) (calls : Calls)
                       (each p k fits).0,
                       after_more (right p k) (λ v p k. Fits t p) _ (each p k fits).1
                           (λ y p k fits. after_more
-                          (or_trap (binary_of op x y) (placed_trap trap.Divide place) p k)
+                          (or_trap (binary_of op int x y) (placed_trap trap.Divide place) p k)
                           (λ v p k. Fits t p) _
-                          (or_trap_leaves t (binary_of op x y)
+                          (or_trap_leaves t (binary_of op int x y)
                           (placed_trap trap.Divide place) p k fits)
                           (λ v p k fits. there.1 p fits)),
                     )),
@@ -219,9 +222,9 @@ module _ (t : Tables) (sane : IsSane t) (typed : IsWellTyped t) (calls : Calls)
             (loaded_leaves t (located t ls p target o.0 o.1) p k there.0)
             (λ x p k fits. value_then (right p k) _ (λ v p k. Fits t p) (each p k fits).1
             (λ y p k fits. value_then
-            (or_trap (binary_of op x y) (placed_trap trap.Divide place) p k) _
+            (or_trap (binary_of op int x y) (placed_trap trap.Divide place) p k) _
             (λ v p k. Fits t p)
-            (or_trap_leaves t (binary_of op x y) (placed_trap trap.Divide place) p k fits)
+            (or_trap_leaves t (binary_of op int x y) (placed_trap trap.Divide place) p k fits)
             (λ v p k fits. stored_ends (located t ls p target o.0 o.1) v p k fits)))),
       )
 
@@ -238,19 +241,20 @@ module _ (t : Tables) (sane : IsSane t) (typed : IsWellTyped t) (calls : Calls)
       (type_moved t s (scopes_of ls) target h.1 same h.3)
       (type_moved t s (scopes_of ls) e h.2 same h.4) fits
   simple_sound (stmt.Assign target (assign.Update op) place e) s p k h same fits =
-      update_sound (target_local target) target (update_binary op) place
+      update_sound (target_local target) target (update_binary op)
+      (sides_type t (scopes_of ls) (update_binary op) target e) place
       (λ p k. value_of t calls e ls p k) (λ p k. Finds t calls found e ls p k) h.1 p k refl h.0
       (type_moved t s (scopes_of ls) target h.1 same h.3)
       (λ p k fits. exp_sound t sane typed calls found sound ls small e h.2 p k
       (type_moved t s (scopes_of ls) e h.2 same h.4) fits) fits
   simple_sound (stmt.Step target step.Up place) s p k h same fits =
-      update_sound (target_local target) target binary.Add place (λ p k. Got (pos 1) p k)
-      (λ p k. Unit {0}) Number p k refl h.0
-      (type_moved t s (scopes_of ls) target Number same h.1) (λ p k fits. (tt, fits)) fits
+      update_sound (target_local target) target binary.Add Signed place
+      (λ p k. Got (pos 1) p k) (λ p k. Unit {0}) (Number h.1) p k refl h.0
+      (type_moved t s (scopes_of ls) target (Number h.1) same h.2) (λ p k fits. (tt, fits)) fits
   simple_sound (stmt.Step target step.Down place) s p k h same fits =
-      update_sound (target_local target) target binary.Sub place (λ p k. Got (pos 1) p k)
-      (λ p k. Unit {0}) Number p k refl h.0
-      (type_moved t s (scopes_of ls) target Number same h.1) (λ p k fits. (tt, fits)) fits
+      update_sound (target_local target) target binary.Sub Signed place
+      (λ p k. Got (pos 1) p k) (λ p k. Unit {0}) (Number h.1) p k refl h.0
+      (type_moved t s (scopes_of ls) target (Number h.1) same h.2) (λ p k fits. (tt, fits)) fits
   simple_sound (stmt.Call name all) s p k h same fits =
       let r = call_sound t sane typed calls found sound ls small name all h.0 p k h.1
       (passed_moved t s (scopes_of ls) h.0.parameters all same h.3) fits in (

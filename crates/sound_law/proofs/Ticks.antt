@@ -10,18 +10,21 @@ use Rattle.c_tree.specs.StmtTree.{StmtTree, Statements, SimpleTree, FirstTree, D
 use Rattle.c_tree.specs.StmtTree.{InitialTree}
 use Rattle.c_tree.specs.StmtTree as stmt
 use Rattle.c_tree.specs.ItemTree.{FunctionTree}
+use Rattle.c_tree.specs.declared.expr.IntType.{IntType}
+use Rattle.c_tree.specs.declared.expr.IntType.TheVariants.{Signed}
 use Rattle.c_tree.specs.declared.expr.BinaryOp.{BinaryOp}
 use Rattle.c_tree.specs.declared.expr.BinaryOp.TheVariants as binary
 use Rattle.c_tree.specs.declared.stmt.AssignOp.TheVariants as assign
 use Rattle.c_tree.specs.declared.stmt.StepOp.TheVariants as step
 use Rattle.c_tree.specs.Operators.{update_binary}
+use Rattle.c_types.specs.Expressions.{sides_type}
 use Rattle.c_types.specs.Tables.{Tables, function_named}
 use Rattle.pool_map.specs.declared.trap.TrapKind.TheVariants as trap
 use Rattle.pool_map.specs.PoolMap.{PoolMap}
 use Rattle.pool_map.specs.Checks.{is_zero}
 use Rattle.c_meaning.specs.declared.trap_at.TrapAt.{TrapAt}
 use Rattle.pool_map.specs.declared.word.PoolWord.{PoolWord}
-use Rattle.c_meaning.specs.Locals.{Local, bound, value_named}
+use Rattle.c_meaning.specs.Locals.{Local, scopes_of, bound, value_named}
 use Rattle.c_meaning.specs.Operators.{binary_of}
 use Rattle.c_meaning.specs.Meaning.{Out, Got, Stops, StmtEnd, Next, Broke, Again, Gave, Traps}
 use Rattle.c_meaning.specs.Meaning.{Calls, then_do, with_value, then_next, at_zero, tick, or_trap}
@@ -134,42 +137,54 @@ truth_falls : (k : ℕ) (b : Out ℤ) → Falls k b
     → Falls k (then_do b (λ y p k. Got (at_zero y (pos 0) (pos 1)) p k))
 truth_falls k b h = do_falls k b _ h (λ y p j. same j)
 
-strict_falls : (k : ℕ) (op : BinaryOp) (place : ℕ) (a : Out ℤ) (b : PoolMap → ℕ → Out ℤ)
-    → Falls k a → Each b → Falls k (strict op place a b)
-strict_falls k op place a b left right = do_falls k a _ left
+strict_falls : (k : ℕ) (op : BinaryOp) (int : IntType) (place : ℕ) (a : Out ℤ)
+    (b : PoolMap → ℕ → Out ℤ)
+    → Falls k a → Each b → Falls k (strict op int place a b)
+strict_falls k op int place a b left right = do_falls k a _ left
     (λ x p j. do_falls j (b p j) _ (right p j)
-    (λ y p i. or_trap_falls (binary_of op x y) place p i))
+    (λ y p i. or_trap_falls (binary_of op int x y) place p i))
 
-binary_falls : (k : ℕ) (op : BinaryOp) (place : ℕ) (a : Out ℤ) (b : PoolMap → ℕ → Out ℤ)
-    → Falls k a → Each b → Falls k (binary_means op place a b)
-binary_falls k binary.Both place a b left right = do_falls k a _ left
+binary_falls : (k : ℕ) (op : BinaryOp) (int : IntType) (place : ℕ) (a : Out ℤ)
+    (b : PoolMap → ℕ → Out ℤ)
+    → Falls k a → Each b → Falls k (binary_means op int place a b)
+binary_falls k binary.Both int place a b left right = do_falls k a _ left
     (λ x p j. zero_falls j (is_zero x) (Got (pos 0) p j) _ (same j)
     (truth_falls j (b p j) (right p j)))
-binary_falls k binary.Either place a b left right = do_falls k a _ left
+binary_falls k binary.Either int place a b left right = do_falls k a _ left
     (λ x p j. zero_falls j (is_zero x) _ (Got (pos 1) p j)
     (truth_falls j (b p j) (right p j)) (same j))
-binary_falls k binary.Mul place a b left right = strict_falls k binary.Mul place a b left right
-binary_falls k binary.Div place a b left right = strict_falls k binary.Div place a b left right
-binary_falls k binary.Rem place a b left right = strict_falls k binary.Rem place a b left right
-binary_falls k binary.Add place a b left right = strict_falls k binary.Add place a b left right
-binary_falls k binary.Sub place a b left right = strict_falls k binary.Sub place a b left right
-binary_falls k binary.ShiftLeft place a b left right =
-    strict_falls k binary.ShiftLeft place a b left right
-binary_falls k binary.ShiftRight place a b left right =
-    strict_falls k binary.ShiftRight place a b left right
-binary_falls k binary.Less place a b left right = strict_falls k binary.Less place a b left right
-binary_falls k binary.LessEqual place a b left right =
-    strict_falls k binary.LessEqual place a b left right
-binary_falls k binary.Greater place a b left right =
-    strict_falls k binary.Greater place a b left right
-binary_falls k binary.GreaterEqual place a b left right =
-    strict_falls k binary.GreaterEqual place a b left right
-binary_falls k binary.Equal place a b left right = strict_falls k binary.Equal place a b left right
-binary_falls k binary.NotEqual place a b left right =
-    strict_falls k binary.NotEqual place a b left right
-binary_falls k binary.And place a b left right = strict_falls k binary.And place a b left right
-binary_falls k binary.Xor place a b left right = strict_falls k binary.Xor place a b left right
-binary_falls k binary.Or place a b left right = strict_falls k binary.Or place a b left right
+binary_falls k binary.Mul int place a b left right =
+    strict_falls k binary.Mul int place a b left right
+binary_falls k binary.Div int place a b left right =
+    strict_falls k binary.Div int place a b left right
+binary_falls k binary.Rem int place a b left right =
+    strict_falls k binary.Rem int place a b left right
+binary_falls k binary.Add int place a b left right =
+    strict_falls k binary.Add int place a b left right
+binary_falls k binary.Sub int place a b left right =
+    strict_falls k binary.Sub int place a b left right
+binary_falls k binary.ShiftLeft int place a b left right =
+    strict_falls k binary.ShiftLeft int place a b left right
+binary_falls k binary.ShiftRight int place a b left right =
+    strict_falls k binary.ShiftRight int place a b left right
+binary_falls k binary.Less int place a b left right =
+    strict_falls k binary.Less int place a b left right
+binary_falls k binary.LessEqual int place a b left right =
+    strict_falls k binary.LessEqual int place a b left right
+binary_falls k binary.Greater int place a b left right =
+    strict_falls k binary.Greater int place a b left right
+binary_falls k binary.GreaterEqual int place a b left right =
+    strict_falls k binary.GreaterEqual int place a b left right
+binary_falls k binary.Equal int place a b left right =
+    strict_falls k binary.Equal int place a b left right
+binary_falls k binary.NotEqual int place a b left right =
+    strict_falls k binary.NotEqual int place a b left right
+binary_falls k binary.And int place a b left right =
+    strict_falls k binary.And int place a b left right
+binary_falls k binary.Xor int place a b left right =
+    strict_falls k binary.Xor int place a b left right
+binary_falls k binary.Or int place a b left right =
+    strict_falls k binary.Or int place a b left right
 
 abbrev pub CallsFall : Calls → Type 0
 CallsFall calls = (place : ℕ) (f : FunctionTree) (vs : List ℤ) (p : PoolMap) (k : ℕ)
@@ -208,8 +223,8 @@ module _ (t : Tables) (calls : Calls) (fall : CallsFall calls) where
     value_falls (expr.Unary op place a) ls p k =
         do_falls k (value_of t calls a ls p k) _ (value_falls a ls p k) (λ x p j. same j)
     value_falls (expr.Binary op place a b) ls p k =
-        binary_falls k op place (value_of t calls a ls p k) (λ p k. value_of t calls b ls p k)
-        (value_falls a ls p k) (λ p j. value_falls b ls p j)
+        binary_falls k op (sides_type t (scopes_of ls) op a b) place (value_of t calls a ls p k)
+        (λ p k. value_of t calls b ls p k) (value_falls a ls p k) (λ p j. value_falls b ls p j)
     value_falls (expr.Conditional c place a b) ls p k =
         do_falls k (value_of t calls c ls p k) _ (value_falls c ls p k)
         (λ x p j. zero_falls j (is_zero x) (value_of t calls b ls p j) (value_of t calls a ls p j)
@@ -270,21 +285,21 @@ module _ (t : Tables) (calls : Calls) (fall : CallsFall calls) where
       (λ v p i. stored_below (located t ls p e o.0 o.1) v ls p i
       (located_fails t ls p e o.0 o.1)))
 
-  update_below : (o : Option (List ℕ)) (e : ExprTree) (op : BinaryOp) (place : ℕ)
+  update_below : (o : Option (List ℕ)) (e : ExprTree) (op : BinaryOp) (int : IntType) (place : ℕ)
       (right : PoolMap → ℕ → Out ℤ) (ls : List Local) (p : PoolMap) (k : ℕ) → Each right
-      → EndsBelow k (update t calls o e op place right ls p k)
-  update_below (Some name) e op place right ls p k h = value_below k (right p k) _ (h p k)
+      → EndsBelow k (update t calls o e op int place right ls p k)
+  update_below (Some name) e op int place right ls p k h = value_below k (right p k) _ (h p k)
       (λ y p j. value_below j
-      (or_trap (binary_of op (value_named name ls) y) (placed_trap trap.Divide place) p j) _
-      (or_trap_falls (binary_of op (value_named name ls) y) place p j)
+      (or_trap (binary_of op int (value_named name ls) y) (placed_trap trap.Divide place) p j) _
+      (or_trap_falls (binary_of op int (value_named name ls) y) place p j)
       (λ v p i. same i))
-  update_below None e op place right ls p k h =
+  update_below None e op int place right ls p k h =
       value_below k (operands_of t calls e ls p k) _ (operands_fall e ls p k)
       (λ o p j. value_below j (loaded (located t ls p e o.0 o.1) p j) _
       (loaded_falls (located t ls p e o.0 o.1) p j (located_fails t ls p e o.0 o.1))
       (λ x p i. value_below i (right p i) _ (h p i)
-      (λ y p n. value_below n (or_trap (binary_of op x y) (placed_trap trap.Divide place) p n) _
-      (or_trap_falls (binary_of op x y) place p n)
+      (λ y p n. value_below n (or_trap (binary_of op int x y) (placed_trap trap.Divide place) p n) _
+      (or_trap_falls (binary_of op int x y) place p n)
       (λ v p m. stored_below (located t ls p e o.0 o.1) v ls p m
       (located_fails t ls p e o.0 o.1)))))
 
@@ -299,14 +314,17 @@ module _ (t : Tables) (calls : Calls) (fall : CallsFall calls) where
       assign_below (target_local target) target (λ p k. value_of t calls e ls p k) ls p k
       (λ p k. value_falls e ls p k)
   simple_below (stmt.Assign target (assign.Update op) place e) ls p k =
-      update_below (target_local target) target (update_binary op) place
+      update_below (target_local target) target (update_binary op)
+      (sides_type t (scopes_of ls) (update_binary op) target e) place
       (λ p k. value_of t calls e ls p k) ls p
       k (λ p k. value_falls e ls p k)
   simple_below (stmt.Step target step.Up place) ls p k =
-      update_below (target_local target) target binary.Add place (λ p k. Got (pos 1) p k) ls p k
+      update_below (target_local target) target binary.Add Signed place
+      (λ p k. Got (pos 1) p k) ls p k
       (λ p k. same k)
   simple_below (stmt.Step target step.Down place) ls p k =
-      update_below (target_local target) target binary.Sub place (λ p k. Got (pos 1) p k) ls p k
+      update_below (target_local target) target binary.Sub Signed place
+      (λ p k. Got (pos 1) p k) ls p k
       (λ p k. same k)
   simple_below (stmt.Call name all) ls p k =
       value_below k (value_of t calls (expr.Call name all) ls p k) _

@@ -8,6 +8,8 @@ use Rattle.c_tree.specs.StmtTree.{StmtTree, Statements, SimpleTree, FirstTree}
 use Rattle.c_tree.specs.StmtTree.{InitialTree}
 use Rattle.c_tree.specs.StmtTree as stmt
 use Rattle.c_tree.specs.ItemTree.{FunctionTree}
+use Rattle.c_tree.specs.declared.expr.IntType.{IntType}
+use Rattle.c_tree.specs.declared.expr.IntType.TheVariants.{Signed}
 use Rattle.c_tree.specs.declared.expr.BinaryOp.{BinaryOp}
 use Rattle.c_tree.specs.declared.expr.BinaryOp.TheVariants as binary
 use Rattle.c_tree.specs.declared.stmt.AssignOp.{AssignOp}
@@ -15,11 +17,12 @@ use Rattle.c_tree.specs.declared.stmt.AssignOp.TheVariants as assign
 use Rattle.c_tree.specs.declared.stmt.StepOp.{StepOp}
 use Rattle.c_tree.specs.declared.stmt.StepOp.TheVariants as step
 use Rattle.c_tree.specs.Operators.{update_binary}
+use Rattle.c_types.specs.Expressions.{sides_type}
 use Rattle.c_types.specs.Tables.{Tables}
 use Rattle.pool_map.specs.declared.trap.TrapKind.TheVariants as trap
 use Rattle.pool_map.specs.PoolMap.{PoolMap}
 use Rattle.pool_map.specs.Checks.{is_zero}
-use Rattle.c_meaning.specs.Locals.{Local, bound}
+use Rattle.c_meaning.specs.Locals.{Local, scopes_of, bound}
 use Rattle.c_meaning.specs.Access.{target_field, struct_pointed_by}
 use Rattle.c_meaning.specs.Operators.{binary_of}
 use Rattle.c_meaning.specs.Meaning.{Out, Got, StmtEnd, Next, Broke, Again, Gave, Traps, Calls}
@@ -70,30 +73,32 @@ module _ (t : Tables) (calls : Calls) (found : FunctionTree → List ℤ → Poo
       (λ v p k. FindsWord t ls p (target_field target) o.0 o.1))
 
   -- the word is there for the load, and once more for the store after the right side
-  abbrev pub UpdateFinds : Option (List ℕ) → ExprTree → BinaryOp → (place : ℕ)
+  abbrev pub UpdateFinds : Option (List ℕ) → ExprTree → BinaryOp → IntType → (place : ℕ)
       → (right : PoolMap → ℕ → Out ℤ) → (PoolMap → ℕ → Type 0)
       → List Local → PoolMap → ℕ → Type 0
-  UpdateFinds (Some name) target op place right Right ls p k = IsLocal name ls × Right p k
-  UpdateFinds None target op place right Right ls p k = FindsOperands t calls found target ls p k
+  UpdateFinds (Some name) target op int place right Right ls p k = IsLocal name ls × Right p k
+  UpdateFinds None target op int place right Right ls p k =
+      FindsOperands t calls found target ls p k
       × Past (operands_of t calls target ls p k)
       (λ o p k. FindsWord t ls p (target_field target) o.0 o.1
       × Past (loaded (located t ls p target o.0 o.1) p k)
       (λ x p k. Right p k × Past (right p k)
-      (λ y p k. Past (or_trap (binary_of op x y) (placed_trap trap.Divide place) p k)
+      (λ y p k. Past (or_trap (binary_of op int x y) (placed_trap trap.Divide place) p k)
       (λ v p k. FindsWord t ls p (target_field target) o.0 o.1))))
 
   abbrev pub AssignFinds : AssignOp → (place : ℕ) → ExprTree → ExprTree → List Local → PoolMap → ℕ
       → Type 0
   AssignFinds assign.Set place target e ls p k = SetFinds (target_local target) target e ls p k
   AssignFinds (assign.Update op) place target e ls p k =
-      UpdateFinds (target_local target) target (update_binary op) place
+      UpdateFinds (target_local target) target (update_binary op)
+      (sides_type t (scopes_of ls) (update_binary op) target e) place
       (λ p k. value_of t calls e ls p k) (λ p k. Finds t calls found e ls p k) ls p k
 
   abbrev pub StepFinds : StepOp → (place : ℕ) → ExprTree → List Local → PoolMap → ℕ → Type 0
-  StepFinds step.Up place target ls p k = UpdateFinds (target_local target) target binary.Add place
-      (λ p k. Got (pos 1) p k) (λ p k. Unit {0}) ls p k
+  StepFinds step.Up place target ls p k = UpdateFinds (target_local target) target binary.Add
+      Signed place (λ p k. Got (pos 1) p k) (λ p k. Unit {0}) ls p k
   StepFinds step.Down place target ls p k = UpdateFinds (target_local target) target binary.Sub
-      place (λ p k. Got (pos 1) p k) (λ p k. Unit {0}) ls p k
+      Signed place (λ p k. Got (pos 1) p k) (λ p k. Unit {0}) ls p k
 
   abbrev pub SimpleFinds : SimpleTree → List Local → PoolMap → ℕ → Type 0
   SimpleFinds (stmt.Assign target op place e) ls p k = AssignFinds op place target e ls p k

@@ -3,20 +3,23 @@ use Rattle.std.proofs.Common.{◌≡◌, ℕ, suc, List, [], ◌∷◌, ◌++◌
 use Rattle.std.proofs.Common.{length-append, Bool, true, false}
 use Rattle.std.specs.Prelude.{Option, None, Some, if◌then◌else◌, pos}
 use Rattle.nvm_base.specs.declared.op.BinOp.{BinOp}
+use Rattle.c_tree.specs.declared.expr.IntType.{IntType}
 use Rattle.c_tree.specs.declared.expr.UnaryOp.TheVariants as unary
 use Rattle.c_tree.specs.declared.stmt.AssignOp.TheVariants as assign
+use Rattle.c_tree.specs.Operators.{update_binary}
 use Rattle.c_tree.specs.ExprTree as expr
 use Rattle.c_tree.specs.ExprTree.{ExprTree, Arguments, Ident}
 use Rattle.c_tree.specs.StmtTree as stmt
 use Rattle.c_tree.specs.StmtTree.{StmtTree, Statements, SimpleTree, FirstTree, InitialTree}
 use Rattle.c_tree.specs.ItemTree.{FunctionTree, ParameterTree}
 use Rattle.c_tree.specs.Program.{Program}
+use Rattle.c_types.specs.Expressions.{sides_type}
 use Rattle.c_types.specs.Tables.{Tables}
 use Rattle.ir.specs.declared.instruction.Instruction.{Instruction}
 use Rattle.ir.specs.declared.instruction.Instruction.TheVariants.{Copy}
 use Rattle.lower.specs.declared.form.Form.{Form}
 use Rattle.lower.specs.declared.form.Form.TheVariants.{Both, Either, Direct, Exchanged}
-use Rattle.lower.specs.Forms.{form_of}
+use Rattle.lower.specs.Forms.{form_of, typed_form, operation_of}
 use Rattle.lower.specs.Names.{Variables, inner_variables, variable_of}
 use Rattle.lower.specs.Assigned.{is_assigned}
 use Rattle.lower.specs.Lowers.{Context, exp_code, exp_end, target_code, target_end, arguments_code}
@@ -38,18 +41,19 @@ both_long : {A B : Type 0} (a b : List A) (c d : List B) → length a ≡ length
     → length b ≡ length d → length (a ++ b) ≡ length (c ++ d)
 both_long a b c d x y = omega (arith, length-append a b, length-append c d, x, y)
 
-form_long : (f : Form) (place : ℕ) (right : List Spot) (node : ℕ → ℕ)
+form_long : (n : IntType) (f : Form) (place : ℕ) (right : List Spot) (node : ℕ → ℕ)
     (code : ℕ → List Instruction) (end reg : ℕ → ℕ) (on p : ℕ)
     → ((x : ℕ) → length right ≡ length (code x))
-    → length (form_spots f place right) ≡ length (form_code f node code end reg on p)
-form_long Both place right node code end reg on p long =
+    → length (form_spots f place right)
+    ≡ length (form_code (typed_form n f) node code end reg on p)
+form_long n Both place right node code end reg on p long =
     ap suc (both_long right _ (code (suc p)) _ (long (suc p)) refl)
-form_long Either place right node code end reg on p long =
+form_long n Either place right node code end reg on p long =
     ap (λ (x : ℕ). suc (suc x))
     (both_long right _ (code (suc (suc p))) _ (long (suc (suc p))) refl)
-form_long (Direct o) place right node code end reg on p long =
+form_long n (Direct o) place right node code end reg on p long =
     both_long right _ (code p) _ (long p) refl
-form_long (Exchanged o) place right node code end reg on p long =
+form_long n (Exchanged o) place right node code end reg on p long =
     both_long right _ (code p) _ (long p) refl
 
 mutual
@@ -76,10 +80,12 @@ mutual
       ap suc (both_long (exp_spots a) _ (exp_code s v a (suc p)) _ (exp_long s v a (suc p)) refl)
   exp_long s v (expr.Unary unary.Not place a) p =
       both_long (exp_spots a) _ (exp_code s v a p) _ (exp_long s v a p) refl
+  exp_long s v (expr.Unary (unary.Cast n) place a) p = exp_long s v a p
   exp_long s v (expr.Binary o place a b) p =
       both_long (exp_spots a) _ (exp_code s v a p) _ (exp_long s v a p)
-      (form_long (form_of o) place (exp_spots b) s.node (exp_code s v b) (exp_end b) (reg_of s v b)
-      (reg_of s v a (exp_end a p)) (exp_end a p) (λ x. exp_long s v b x))
+      (form_long (sides_type s.tables v.scopes o a b) (form_of o) place (exp_spots b) s.node
+      (exp_code s v b) (exp_end b) (reg_of s v b) (reg_of s v a (exp_end a p)) (exp_end a p)
+      (λ x. exp_long s v b x))
   exp_long s v (expr.Conditional c place a b) p =
       let p1 : ℕ = exp_end c p in
       let p2 : ℕ = exp_end a (suc p1) in
@@ -144,7 +150,9 @@ simple_long : (s : Context) (v : Variables) (x : SimpleTree) (p : ℕ)
 simple_long s v (stmt.Assign target assign.Set place value) p =
     set_long s v (variable_of target) target place value p
 simple_long s v (stmt.Assign target (assign.Update o) place value) p =
-    update_long s v (variable_of target) target place (update_operation o) (Some value) p
+    update_long s v (variable_of target) target place
+    (operation_of (sides_type s.tables v.scopes (update_binary o) target value)
+    (update_operation o)) (Some value) p
 simple_long s v (stmt.Step target o place) p =
     update_long s v (variable_of target) target place (step_operation o) None p
 simple_long s v (stmt.Call name all) p = exp_long s v (expr.Call name all) p

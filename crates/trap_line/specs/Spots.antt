@@ -80,6 +80,7 @@ abbrev mutual
   exp_spots (expr.Unary unary.Negate place a) = never ∷ (exp_spots a ++ never ∷ [])
   exp_spots (expr.Unary unary.Complement place a) = never ∷ (exp_spots a ++ never ∷ [])
   exp_spots (expr.Unary unary.Not place a) = exp_spots a ++ never ∷ never ∷ []
+  exp_spots (expr.Unary (unary.Cast n) place a) = exp_spots a
   exp_spots (expr.Binary o place a b) =
       exp_spots a ++ form_spots (form_of o) place (exp_spots b)
   exp_spots (expr.Conditional c place a b) =

@@ -84,6 +84,7 @@ pub(crate) fn push_expression(spots: &mut Spots, expr: &Expr) -> Result<(), Allo
         Expr::Unary { op, operand, .. } => match op {
             UnaryOp::Negate => push_between(spots, operand),
             UnaryOp::Complement => push_between(spots, operand),
+            UnaryOp::Cast(_) => push_expression(spots, operand),
             UnaryOp::Not => {
                 push_expression(spots, operand)?;
                 push_never(spots)?;

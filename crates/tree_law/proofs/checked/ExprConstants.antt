@@ -16,14 +16,15 @@ use Rattle.c_tree.specs.Spelling.{level_suc, Chain, chain_end, chain_more, Unary
 use Rattle.c_tree.specs.Spelling.{Postfix, postfix, Parts, parts_end, field}
 use Rattle.c_tree.specs.Spelling.{element, Primary, number, null, variable, call, root, new}
 use Rattle.c_tree.specs.Spelling.{brackets, SpellsArguments, no_arguments, arguments, MoreArguments}
-use Rattle.c_tree.specs.Spelling.{no_more, more}
+use Rattle.c_tree.specs.Spelling.{no_more, more, cast}
+use Rattle.c_types.specs.Expressions.{sides_type}
 use Rattle.ir.specs.declared.instruction.Instruction.{Instruction}
 use Rattle.ir.specs.declared.instruction.Instruction.TheVariants.{Const, Copy, Bin, Jump, Branch}
 use Rattle.ir.specs.declared.instruction.Instruction.TheVariants.{Load, Store, New, Free, Call}
 use Rattle.ir.specs.declared.instruction.Instruction.TheVariants.{Return, Tick, Trap, Log}
 use Rattle.lower.specs.declared.form.Form.{Form}
 use Rattle.lower.specs.declared.form.Form.TheVariants.{Both, Either, Direct, Exchanged}
-use Rattle.lower.specs.Forms.{form_of}
+use Rattle.lower.specs.Forms.{form_of, typed_form}
 use Rattle.lower.specs.Names.{Variables}
 use Rattle.lower.specs.Lowers.{Context, exp_end, exp_code, reg_of, target_end, target_code}
 use Rattle.lower.specs.Lowers.{arguments_code, form_code}
@@ -88,8 +89,8 @@ binary_words : (k : Context) (o : BinaryOp) (place : ℕ) (a b : ExprTree) → E
 binary_words k o place a b ha hb v p =
     let q : ℕ = exp_end a p in (
       both_words (exp_code k v a p) _ (ha v p).0
-          (form_words (form_of o) k.node (exp_code k v b) (exp_end b) (reg_of k v b)
-          (reg_of k v a q) q
+          (form_words (typed_form (sides_type k.tables v.scopes o a b) (form_of o)) k.node
+          (exp_code k v b) (exp_end b) (reg_of k v b) (reg_of k v a q) q
           (λ z. (hb v z).0)),
       tt,
     )
@@ -116,6 +117,7 @@ unary_words k unary.Complement place a h v p =
     ((ones_word, both_words (exp_code k v a (suc p)) _ (h v (suc p)).0 (tt, tt)), tt)
 unary_words k unary.Not place a h v p =
     (both_words (exp_code k v a p) _ (h v p).0 (zero_word, (tt, tt)), tt)
+unary_words k (unary.Cast n) place a h v p = ((h v p).0, tt)
 
 arrow_words : (k : Context) (a : ExprTree) (place : ℕ) (name : Ident) → ExpWords k a
     → ExpWords k (tree.Arrow a place name)
@@ -152,6 +154,8 @@ module _ (k : Context) (ts : List Placed) (words : (i : ℕ) → IsWord (value_a
 
     prefix_words : {i j : ℕ} {e : ExprTree} → Unary ts i j e → ExpWords k e
     prefix_words (signed {i = i} {e = e} o is operand) = unary_words k o i e (prefix_words operand)
+    prefix_words (cast {i = i} {e = e} n opens is closes operand) =
+        unary_words k (unary.Cast n) (i + 1) e (prefix_words operand)
     prefix_words (unsigned h) = postfix_words h
 
     pub postfix_words : {i j : ℕ} {e : ExprTree} → Postfix ts i j e → ExpWords k e

@@ -16,7 +16,7 @@ use Rattle.c_types.specs.Fits.{type_takes}
 use Rattle.c_types.specs.Tables.{Tables, index_of, function_names, function_named}
 use Rattle.c_types.specs.Expressions.{Scope, value_broken, call_broken, parameters_of}
 use Rattle.c_types.specs.Expressions.{parameter_type, argument_count, type_of, broken_in}
-use Rattle.c_types.specs.Expressions.{broken_in_all}
+use Rattle.c_types.specs.Expressions.{broken_in_all, sides_type}
 use Rattle.c_types.proofs.Unbroken.{none_left, none_right, holds}
 use Rattle.ir.specs.declared.instruction.Instruction.{Instruction}
 use Rattle.ir.specs.declared.instruction.Instruction.TheVariants.{Const, Copy, Bin, Jump, Branch}
@@ -24,7 +24,7 @@ use Rattle.ir.specs.declared.instruction.Instruction.TheVariants.{Load, Store, N
 use Rattle.ir.specs.declared.instruction.Instruction.TheVariants.{Return, Tick, Trap, Log}
 use Rattle.lower.specs.declared.form.Form.{Form}
 use Rattle.lower.specs.declared.form.Form.TheVariants.{Both, Either, Direct, Exchanged}
-use Rattle.lower.specs.Forms.{form_of}
+use Rattle.lower.specs.Forms.{form_of, typed_form}
 use Rattle.lower.specs.Names.{Variables, found_number, function_number}
 use Rattle.lower.specs.Lowers.{Context, exp_end, exp_code, reg_of, target_end, target_code}
 use Rattle.lower.specs.Lowers.{arguments_code, form_code}
@@ -149,6 +149,9 @@ mutual
       both_plain t (exp_code k v x p) _
       (exp_plain k s v x p h (value_own t s x (none_left (value_broken t s x) _ b)))
       (tt, (tt, tt))
+  exp_plain k s v (expr.Unary (unary.Cast n) place x) p h b =
+      let t : Tables = k.tables in
+      exp_plain k s v x p h (value_own t s x (none_left (value_broken t s x) _ b))
   exp_plain k s v (expr.Binary o place x y) p h b =
       let t : Tables = k.tables in
       let q : ℕ = exp_end x p in
@@ -156,8 +159,8 @@ mutual
       let by : broken_in t s y ≡ [] =
       value_own t s y (none_left (value_broken t s y) _ (none_right (value_broken t s x) _ b)) in
       both_plain t (exp_code k v x p) _ (exp_plain k s v x p h bx)
-      (form_plain t (form_of o) k.node (exp_code k v y) (exp_end y) (reg_of k v y) (reg_of k v x q)
-      q (λ z. exp_plain k s v y z h by))
+      (form_plain t (typed_form (sides_type t v.scopes o x y) (form_of o)) k.node (exp_code k v y)
+      (exp_end y) (reg_of k v y) (reg_of k v x q) q (λ z. exp_plain k s v y z h by))
   exp_plain k s v (expr.Conditional c place x y) p h b =
       let t : Tables = k.tables in
       let p1 : ℕ = exp_end c p in

@@ -4,6 +4,7 @@ use Rattle.std.specs.Prelude.{Option, None, Some, if◌then◌else◌}
 use Rattle.std.specs.Option.{option_map_or}
 use Rattle.nvm_base.specs.declared.op.BinOp.{BinOp}
 use Rattle.c_tree.specs.declared.stmt.AssignOp.TheVariants as assign
+use Rattle.c_tree.specs.Operators.{update_binary}
 use Rattle.c_tree.specs.ExprTree.{ExprTree, Ident}
 use Rattle.c_tree.specs.StmtTree as stmt
 use Rattle.c_tree.specs.StmtTree.{StmtTree, Statements, SimpleTree, FirstTree, DeclarationTree}
@@ -12,7 +13,7 @@ use Rattle.c_tree.specs.ItemTree.{FunctionTree, ParameterTree}
 use Rattle.c_types.specs.declared.value_type.ValueType.{ValueType}
 use Rattle.c_types.specs.Tables.{Tables, function_named, declared_type}
 use Rattle.c_types.specs.Expressions.{Scope, value_broken, broken_in, call_broken, parameters_of}
-use Rattle.c_types.specs.Expressions.{argument_count}
+use Rattle.c_types.specs.Expressions.{argument_count, sides_type}
 use Rattle.c_types.specs.Statements as types
 use Rattle.c_types.specs.Statements.{type_broken, simple_broken, initial_broken, declaration_broken}
 use Rattle.c_types.specs.Statements.{first_broken, return_broken, statement_broken}
@@ -22,6 +23,7 @@ use Rattle.c_types.specs.Declarations.{type_given, parameters_broken, body_broke
 use Rattle.c_types.proofs.Unbroken.{none_left, none_right}
 use Rattle.ir.specs.declared.instruction.Instruction.TheVariants.{Copy}
 use Rattle.lower.specs.Assigned.{is_assigned}
+use Rattle.lower.specs.Forms.{operation_of}
 use Rattle.lower.specs.Names.{Variables, inner_variables, variable_of}
 use Rattle.lower.specs.Lowers.{Context, exp_end, exp_code, target_end, target_code, arguments_code}
 use Rattle.lower.specs.Lowers.{or_end, or_code, set_code, update_code, update_operation}
@@ -84,7 +86,9 @@ simple_plain k s v (stmt.Assign target assign.Set place value) p h b =
     (none_left (value_broken t s value) _ (none_right (value_broken t s target) _ b))
 simple_plain k s v (stmt.Assign target (assign.Update o) place value) p h b =
     let t : Tables = k.tables in
-    update_plain k s v (variable_of target) target place (update_operation o) (Some value) p h
+    update_plain k s v (variable_of target) target place
+    (operation_of (sides_type k.tables v.scopes (update_binary o) target value)
+    (update_operation o)) (Some value) p h
     (none_left (value_broken t s target) _ b)
     (none_left (value_broken t s value) _ (none_right (value_broken t s target) _ b))
 simple_plain k s v (stmt.Step target o place) p h b =

@@ -9,6 +9,7 @@ use Rattle.c_lexer.specs.declared.token.Placed.{Placed}
 use Rattle.c_tree.specs.declared.stmt.AssignOp.{AssignOp}
 use Rattle.c_tree.specs.declared.stmt.AssignOp.TheVariants as assign
 use Rattle.c_tree.specs.Kinds.{value_at}
+use Rattle.c_tree.specs.Operators.{update_binary}
 use Rattle.c_tree.specs.ExprTree.{ExprTree, Ident}
 use Rattle.c_tree.specs.StmtTree as stmt
 use Rattle.c_tree.specs.StmtTree.{StmtTree, Statements, SimpleTree, FirstTree, DeclarationTree}
@@ -26,9 +27,11 @@ use Rattle.c_tree.specs.ItemSpelling.{SpellsFunction, function, SpellsItem, stru
 use Rattle.c_tree.specs.ItemSpelling.{transaction, plain_function, SpellsItems, items_end}
 use Rattle.c_tree.specs.ItemSpelling.{items_more}
 use Rattle.c_tree.specs.Program.{Program}
+use Rattle.c_types.specs.Expressions.{sides_type}
 use Rattle.c_types.specs.Tables.{Tables, function_trees}
 use Rattle.ir.specs.declared.instruction.Instruction.TheVariants.{Copy}
 use Rattle.lower.specs.Assigned.{is_assigned}
+use Rattle.lower.specs.Forms.{operation_of}
 use Rattle.lower.specs.Names.{Variables, inner_variables, variable_of}
 use Rattle.lower.specs.Lowers.{Context, exp_end, exp_code, target_end, target_code, arguments_code}
 use Rattle.lower.specs.Lowers.{or_end, or_code, set_code, update_code, update_operation}
@@ -95,7 +98,9 @@ assign_words : (k : Context) (o : AssignOp) (target : ExprTree) (place : ℕ) (v
 assign_words k assign.Set target place value a b v p =
     set_words k v (variable_of target) target place value p a b
 assign_words k (assign.Update o) target place value a b v p =
-    update_words k v (variable_of target) target place (update_operation o) (Some value) p a
+    update_words k v (variable_of target) target place
+    (operation_of (sides_type k.tables v.scopes (update_binary o) target value)
+    (update_operation o)) (Some value) p a
     (some_words k value b)
 
 module _ (k : Context) (ts : List Placed) (words : (i : ℕ) → IsWord (value_at ts i)) where

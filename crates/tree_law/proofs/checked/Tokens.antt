@@ -1,13 +1,14 @@
 -- The numbers among the tokens of a text, and among those that its constants leave, are words.
 use Rattle.std.proofs.Common.{◌≡◌, ℕ, zero, suc, ◌-◌, ◌^◌, ◌≤◌, ℤ, pos, Bool, true, false, List, []}
-use Rattle.std.proofs.Common.{◌∷◌, length, drop, refl, subst, arith}
+use Rattle.std.proofs.Common.{◌∷◌, length, drop, refl, subst, arith, ◌<◌, ltb}
 use Rattle.std.specs.Prelude.{nat_le, nat_lt, nat_eq, ◌==◌, ◌&&◌, ◌||◌, if◌then◌else◌, slice_index}
 use Rattle.std.specs.Prelude.{codes, Option, None, Some, Result, Ok, Err}
+use Rattle.std.specs.Int.{w64, cast_signed}
 use Rattle.std.specs.List.{list_all, starts_with}
 use Rattle.std.specs.Char.{is_digit, is_ascii_digit}
 use Rattle.std.specs.Str.Parse.{digits_value_after}
 use Rattle.std.proofs.lemmas.Int.{ints}
-use Rattle.std.proofs.lemmas.Bool.{and_parts}
+use Rattle.std.proofs.lemmas.Bool.{and_parts, ltb-true, ltb-false}
 use Rattle.nvm_base.specs.Wrap.{IsWord}
 use Rattle.nvm_base.proofs.Tests.{le_from}
 use Rattle.c_lexer.specs.declared.fault.LexFault.{LexFault}
@@ -37,35 +38,50 @@ abbrev IsWordOr : Option ℤ → Type 0
 IsWordOr None = Unit {0}
 IsWordOr (Some v) = IsWord v
 
-digits_words : (base before : ℕ) (digits : List ℕ) → IsWordOr (digits_after base before digits)
-digits_words base before digits =
+-- the word of a number below 2^64
+bits_word : (n : ℕ) → n < 2 ^ 64 → IsWord (cast_signed w64 n)
+bits_word n small = by (ltb n (2 ^ 63)) refl
+  where
+    by : (t : Bool) → ltb n (2 ^ 63) ≡ t → IsWord (cast_signed w64 n)
+    by true low = let below = ltb-true n (2 ^ 63) low in
+        rw low (omega (arith, ints), omega (arith, ints, below))
+    by false high = let above = ltb-false n (2 ^ 63) high in
+        rw high (omega (arith, ints, above, small), omega (arith, ints, above, small))
+
+digits_words : (base most before : ℕ) (digits : List ℕ) → most < 2 ^ 64
+    → IsWordOr (digits_after base most before digits)
+digits_words base most before digits small =
     by_test (list_all (λ d. is_digit d base) digits
-    && nat_le (digits_value_after base before digits) (2 ^ 63 - 1)) refl
+    && nat_le (digits_value_after base before digits) most) refl
   where
     by_test : (b : Bool) → (list_all (λ d. is_digit d base) digits
-        && nat_le (digits_value_after base before digits) (2 ^ 63 - 1)) ≡ b
-        → IsWordOr (if b then Some (pos (digits_value_after base before digits)) else None)
-    by_test true at = small_word (digits_value_after base before digits)
-        (le_from (digits_value_after base before digits) (2 ^ 63 - 1)
+        && nat_le (digits_value_after base before digits) most) ≡ b
+        → IsWordOr (if b then Some (cast_signed w64 (digits_value_after base before digits))
+        else None)
+    by_test true at = let fits = le_from (digits_value_after base before digits) most
         (and_parts (list_all (λ d. is_digit d base) digits)
-        (nat_le (digits_value_after base before digits) (2 ^ 63 - 1)) at).1)
+        (nat_le (digits_value_after base before digits) most) at).1 in
+        bits_word (digits_value_after base before digits) (omega (arith, fits, small))
     by_test false at = tt
 
 either_words : (b : Bool) (x y : Option ℤ) → IsWordOr x → IsWordOr y → IsWordOr (if b then x else y)
 either_words true x y a c = a
 either_words false x y a c = c
 
-numeral_words : (base : ℕ) (digits : List ℕ) → IsWordOr (numeral base digits)
-numeral_words base digits = either_words (nat_lt 0 (length digits)) (digits_after base 0 digits)
-    None (digits_words base 0 digits) tt
+numeral_words : (base most : ℕ) (digits : List ℕ) → most < 2 ^ 64
+    → IsWordOr (numeral base most digits)
+numeral_words base most digits small =
+    either_words (nat_lt 0 (length digits)) (digits_after base most 0 digits)
+    None (digits_words base most 0 digits small) tt
 
 number_words : (run : List ℕ) → IsWordOr (number_of run)
 unfolding number_of
 number_words run =
     either_words (starts_with nat_eq run (codes "0x") || starts_with nat_eq run (codes "0X"))
-    (numeral 16 (drop 2 run)) _ (numeral_words 16 (drop 2 run))
-    (either_words (slice_index run 0 == 48 && nat_lt 1 (length run)) None (numeral 10 run) tt
-    (numeral_words 10 run))
+    (numeral 16 (2 ^ 64 - 1) (drop 2 run)) _
+    (numeral_words 16 (2 ^ 64 - 1) (drop 2 run) (omega arith))
+    (either_words (slice_index run 0 == 48 && nat_lt 1 (length run)) None
+    (numeral 10 (2 ^ 63 - 1) run) tt (numeral_words 10 (2 ^ 63 - 1) run (omega arith)))
 
 -- a cut that begins with a piece has only words as numbers
 record KeepsWords {S P : Type 0} (begun : P → S → (ℕ → Cut) → Cut) (x : P) : Type 0 where

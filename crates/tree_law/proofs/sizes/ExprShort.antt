@@ -2,6 +2,7 @@
 use Rattle.std.proofs.Common.{ℕ, suc, ◌+◌, ◌*◌, ◌≤◌, List, arith}
 use Rattle.c_lexer.specs.declared.token.Placed.{Placed}
 use Rattle.c_tree.specs.declared.expr.BinaryOp.{BinaryOp}
+use Rattle.c_tree.specs.declared.expr.IntType.{IntType}
 use Rattle.c_tree.specs.declared.expr.UnaryOp.{UnaryOp}
 use Rattle.c_tree.specs.declared.expr.UnaryOp.TheVariants as unary
 use Rattle.c_tree.specs.Kinds.{ident_at}
@@ -12,7 +13,7 @@ use Rattle.c_tree.specs.Spelling.{level_suc, Chain, chain_end, chain_more, Unary
 use Rattle.c_tree.specs.Spelling.{Postfix, postfix, Parts, parts_end, field}
 use Rattle.c_tree.specs.Spelling.{element, Primary, number, null, variable, call, root, new}
 use Rattle.c_tree.specs.Spelling.{brackets, SpellsArguments, no_arguments, arguments, MoreArguments}
-use Rattle.c_tree.specs.Spelling.{no_more, more}
+use Rattle.c_tree.specs.Spelling.{no_more, more, cast}
 use Rattle.lower.specs.declared.form.Form.{Form}
 use Rattle.lower.specs.declared.form.Form.TheVariants.{Both, Either, Direct, Exchanged}
 use Rattle.lower.specs.Forms.{form_of}
@@ -65,6 +66,11 @@ unary_short : (o : UnaryOp) (a : ExprTree) (i j : ℕ) → Shorter a (i + 1) j
 unary_short unary.Negate a i j h p = omega (arith, h (suc p))
 unary_short unary.Complement a i j h p = omega (arith, h (suc p))
 unary_short unary.Not a i j h p = omega (arith, h p)
+unary_short (unary.Cast n) a i j h p = omega (arith, h p)
+
+cast_short : (n : IntType) (a : ExprTree) (i j : ℕ) → Shorter a (i + 1 + 1 + 1) j
+    → Shorter (tree.Unary (unary.Cast n) (i + 1) a) i j
+cast_short n a i j h p = omega (arith, h p)
 
 arrow_short : (a : ExprTree) (name : Ident) (k i : ℕ) → Shorter a k i
     → Shorter (tree.Arrow a i name) k (i + 1 + 1)
@@ -100,6 +106,8 @@ mutual
   prefix_short : {ts : List Placed} {i j : ℕ} {e : ExprTree} → Unary ts i j e → Shorter e i j
   prefix_short (signed {i = i} {j = j} {e = e} o is operand) =
       unary_short o e i j (prefix_short operand)
+  prefix_short (cast {i = i} {j = j} {e = e} n opens is closes operand) =
+      cast_short n e i j (prefix_short operand)
   prefix_short (unsigned h) = postfix_short h
 
   pub postfix_short : {ts : List Placed} {i j : ℕ} {e : ExprTree} → Postfix ts i j e → Shorter e i j

@@ -1,15 +1,19 @@
 -- The length of the code of expressions: it goes from its beginning to its end.
 use Rattle.std.proofs.Common.{◌≡◌, ℕ, suc, ◌+◌, List, [], ◌∷◌, ◌++◌, length, length-append, arith}
+use Rattle.std.proofs.Common.{subst}
+use Rattle.c_tree.specs.declared.expr.IntType.{IntType}
 use Rattle.c_tree.specs.declared.expr.UnaryOp.TheVariants as unary
 use Rattle.c_tree.specs.ExprTree as expr
 use Rattle.c_tree.specs.ExprTree.{ExprTree, Arguments}
+use Rattle.c_types.specs.Expressions.{sides_type}
 use Rattle.ir.specs.declared.instruction.Instruction.{Instruction}
 use Rattle.lower.specs.declared.form.Form.{Form}
 use Rattle.lower.specs.declared.form.Form.TheVariants.{Both, Either, Direct, Exchanged}
-use Rattle.lower.specs.Forms.{form_of}
+use Rattle.lower.specs.Forms.{form_of, typed_form}
 use Rattle.lower.specs.Names.{Variables}
 use Rattle.lower.specs.Lowers.{Context, exp_end, exp_code, target_end, target_code, arguments_end}
 use Rattle.lower.specs.Lowers.{arguments_code, form_end, form_code, reg_of}
+use Rattle.lower.proofs.Ends.{form_end_typed}
 
 -- a list of instructions that goes from one place to another
 pub record Leads (p : ℕ) (xs : List Instruction) (q : ℕ) : Type 0 where
@@ -58,10 +62,15 @@ mutual
   exp_leads k v (expr.Unary unary.Complement place a) p =
       first (joined (exp_leads k v a (suc p)) one)
   exp_leads k v (expr.Unary unary.Not place a) p = joined (exp_leads k v a p) two
+  exp_leads k v (expr.Unary (unary.Cast n) place a) p = exp_leads k v a p
   exp_leads k v (expr.Binary o place a b) p =
       let q : ℕ = exp_end a p in
-      joined (exp_leads k v a p) (form_leads (form_of o) k.node (exp_code k v b) (exp_end b)
-      (reg_of k v b) (reg_of k v a q) q (λ x. exp_leads k v b x))
+      let n : IntType = sides_type k.tables v.scopes o a b in
+      let form : Form = typed_form n (form_of o) in
+      subst (λ (r : ℕ). Leads p (exp_code k v (expr.Binary o place a b) p) r)
+      (form_end_typed n (form_of o) (exp_end b) q)
+      (joined (exp_leads k v a p) (form_leads form k.node (exp_code k v b) (exp_end b)
+      (reg_of k v b) (reg_of k v a q) q (λ x. exp_leads k v b x)))
   exp_leads k v (expr.Conditional c place a b) p =
       let p1 : ℕ = exp_end c p in
       let p2 : ℕ = exp_end a (suc p1) in

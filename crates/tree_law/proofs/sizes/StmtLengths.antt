@@ -4,17 +4,20 @@ use Rattle.std.proofs.Common.{arith}
 use Rattle.std.specs.Prelude.{Option, None, Some, if◌then◌else◌}
 use Rattle.nvm_base.specs.declared.op.BinOp.{BinOp}
 use Rattle.c_tree.specs.declared.stmt.AssignOp.TheVariants as assign
+use Rattle.c_tree.specs.Operators.{update_binary}
 use Rattle.c_tree.specs.ExprTree as expr
 use Rattle.c_tree.specs.ExprTree.{ExprTree, Ident}
 use Rattle.c_tree.specs.StmtTree as stmt
 use Rattle.c_tree.specs.StmtTree.{StmtTree, Statements, SimpleTree, FirstTree, InitialTree}
 use Rattle.c_tree.specs.ItemTree.{FunctionTree, ParameterTree}
 use Rattle.c_tree.specs.Program.{Program}
+use Rattle.c_types.specs.Expressions.{sides_type}
 use Rattle.c_types.specs.Tables.{Tables}
 use Rattle.ir.specs.declared.instruction.Instruction.{Instruction}
 use Rattle.ir.specs.declared.instruction.Instruction.TheVariants.{Copy}
 use Rattle.lower.specs.Names.{Variables, inner_variables, variable_of}
 use Rattle.lower.specs.Assigned.{is_assigned}
+use Rattle.lower.specs.Forms.{operation_of}
 use Rattle.lower.specs.Lowers.{Context, exp_end, target_end, or_end, or_code, set_end, set_code}
 use Rattle.lower.specs.Lowers.{update_end, update_code, update_operation, step_operation}
 use Rattle.lower.specs.Lowers.{simple_end, simple_code}
@@ -52,7 +55,9 @@ simple_leads : (k : Context) (v : Variables) (x : SimpleTree) (p : ℕ)
 simple_leads k v (stmt.Assign target assign.Set place value) p =
     set_leads k v (variable_of target) target place value p
 simple_leads k v (stmt.Assign target (assign.Update o) place value) p =
-    update_leads k v (variable_of target) target place (update_operation o) (Some value) p
+    update_leads k v (variable_of target) target place
+    (operation_of (sides_type k.tables v.scopes (update_binary o) target value)
+    (update_operation o)) (Some value) p
 simple_leads k v (stmt.Step target o place) p =
     update_leads k v (variable_of target) target place (step_operation o) None p
 simple_leads k v (stmt.Call name all) p = exp_leads k v (expr.Call name all) p

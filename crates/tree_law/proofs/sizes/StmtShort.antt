@@ -23,7 +23,7 @@ use Rattle.tree_law.proofs.sizes.ExprShort.{Short, Shorter, target_end_small, ex
 use Rattle.tree_law.proofs.sizes.ExprShort.{postfix_short, arguments_short}
 
 pub typed_grows : {ts : List Placed} {i j : ℕ} {t : TypeTree} → Typed ts i j t → i + 1 ≤ j
-typed_grows (int is) = omega arith
+typed_grows (int n is) = omega arith
 typed_grows (pointer is name star) = omega arith
 
 declares_short : {ts : List Placed} {i j : ℕ} {d : DeclarationTree} → Declares ts i j d
