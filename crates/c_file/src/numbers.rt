@@ -19,7 +19,12 @@ static inline uint64_t cn_rem0(uint64_t a, uint64_t b) {
     return a >> 63 ? 0 - r : r;
 }
 
+static inline uint64_t cn_udiv0(uint64_t a, uint64_t b) { return b == 0 ? 0 : a / b; }
+static inline uint64_t cn_urem0(uint64_t a, uint64_t b) { return b == 0 ? 0 : a % b; }
+
 static inline uint64_t cn_shl(uint64_t a, uint64_t b) { return a << (b & 63); }
+
+static inline uint64_t cn_ushr(uint64_t a, uint64_t b) { return a >> (b & 63); }
 
 /* the sign moves in from the left */
 static inline uint64_t cn_shr(uint64_t a, uint64_t b) {

@@ -6,11 +6,9 @@ ghost use Rattle.c_file.specs.Pieces.{twice, worded, worded_from};
 use nvm_base::Text;
 use std::alloc::{AllocError, Global};
 
-/// How an argument of a transaction is written: as its caller hands it in, as a word, and out of
-/// the record.
+/// How an argument of a transaction is written: as a word, and out of the record.
 #[derive(Clone, Copy)]
 pub enum Wording {
-    Parameter,
     Argument,
     Element,
 }
@@ -33,13 +31,6 @@ pub(crate) fn push_twice(
     text.push(last)
 }
 
-fn push_parameter(alloc: Global, text: &mut Text, k: u32) -> Result<(), AllocError>
-    ensures { OnOk result (text.new ≡ text.old ++ worded Wording.Parameter k) }
-{
-    let piece = format!(in alloc; ", int64_t a{k}")?;
-    text.push(piece.as_str())
-}
-
 fn push_argument(alloc: Global, text: &mut Text, k: u32) -> Result<(), AllocError>
     ensures { OnOk result (text.new ≡ text.old ++ worded Wording.Argument k) }
 {
@@ -58,7 +49,6 @@ fn push_worded(alloc: Global, text: &mut Text, how: Wording, k: u32) -> Result<(
     ensures { OnOk result (text.new ≡ text.old ++ worded how k) }
 {
     match how {
-        Wording::Parameter => push_parameter(alloc, text, k),
         Wording::Argument => push_argument(alloc, text, k),
         Wording::Element => push_element(alloc, text, k),
     }

@@ -4,10 +4,10 @@
 --
 -- What a function of the runtime does to the pool's words is given here, and so is its result;
 -- that its own text does so isn't said here.
-use Rattle.std.specs.Prelude.{ℕ, ◌+◌, ◌-◌, ◌*◌, ◌%◌, ◌^◌, ◌==◌, List, [], ◌∷◌, ◌++◌, length, map}
-use Rattle.std.specs.Prelude.{pos}
+use Rattle.std.specs.Prelude.{ℕ, ◌+◌, ◌-◌, ◌*◌, ◌/◌, ◌%◌, ◌^◌, ◌==◌, List, [], ◌∷◌, ◌++◌, length}
+use Rattle.std.specs.Prelude.{map, pos}
 use Rattle.std.specs.Prelude.{slice_get, slice_index_or, Option, Some, None, Bool, not, ◌&&◌}
-use Rattle.std.specs.Prelude.{if◌then◌else◌, nat_lt, bit_and, bit_or, bit_xor}
+use Rattle.std.specs.Prelude.{if◌then◌else◌, nat_le, nat_lt, bit_and, bit_or, bit_xor}
 use Rattle.std.specs.Int.{w64, cast_signed}
 use Rattle.std.specs.List.{list_all}
 use Rattle.nvm_base.specs.Operations.{unsigned}
@@ -19,7 +19,9 @@ use Rattle.pm_machine.specs.Find.{least}
 use Rattle.pm_machine.specs.Logging.{unlisted, rolled, has_room}
 use Rattle.c_fragment.specs.Statement.{Operator, Plus, Minus, Times, Both, Either, OneOf, Equal}
 use Rattle.c_fragment.specs.Statement.{Unequal, Below, Quotient, Remainder, ShiftLeft, ShiftRight}
-use Rattle.c_fragment.specs.Statement.{Less, LessOrEqual, Statement, SetWord, SetCopy, SetOperation}
+use Rattle.c_fragment.specs.Statement.{Less, LessOrEqual, BelowOrEqual, PlainQuotient}
+use Rattle.c_fragment.specs.Statement.{PlainRemainder, PlainShift}
+use Rattle.c_fragment.specs.Statement.{Statement, SetWord, SetCopy, SetOperation}
 use Rattle.c_fragment.specs.Statement.{Goto, GotoIfZero, SetLoad, StoreAt, SetFree, LogAt}
 use Rattle.c_fragment.specs.Statement.{FlushFirst, FenceAll, SetCall, TakeTick, TrapWith}
 use Rattle.c_fragment.specs.Statement.{ReturnWith, CFunction}
@@ -56,6 +58,10 @@ c_value ShiftLeft a b = unsigned (applied operations.Shl (cast_signed w64 a) (ca
 c_value ShiftRight a b = unsigned (applied operations.Shr (cast_signed w64 a) (cast_signed w64 b))
 c_value Less a b = unsigned (applied operations.Lt (cast_signed w64 a) (cast_signed w64 b))
 c_value LessOrEqual a b = unsigned (applied operations.Le (cast_signed w64 a) (cast_signed w64 b))
+c_value BelowOrEqual a b = one_if (nat_le a b)
+c_value PlainQuotient a b = if b == 0 then 0 else a / b
+c_value PlainRemainder a b = if b == 0 then 0 else a % b
+c_value PlainShift a b = a / 2 ^ (b % 64)
 
 -- what is done with a variable's value
 abbrev pub using_value : Option ℕ → (ℕ → CStep) → CStep

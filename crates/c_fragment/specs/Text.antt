@@ -3,7 +3,9 @@ use Rattle.std.specs.Prelude.{ℕ, zero, suc, ◌+◌, ◌-◌, List, [], ◌∷
 use Rattle.std.specs.Fmt.{decimal}
 use Rattle.c_fragment.specs.Statement.{Operator, Plus, Minus, Times, Both, Either, OneOf, Equal}
 use Rattle.c_fragment.specs.Statement.{Unequal, Below, Quotient, Remainder, ShiftLeft, ShiftRight}
-use Rattle.c_fragment.specs.Statement.{Less, LessOrEqual, Statement, SetWord, SetCopy, SetOperation}
+use Rattle.c_fragment.specs.Statement.{Less, LessOrEqual, BelowOrEqual, PlainQuotient}
+use Rattle.c_fragment.specs.Statement.{PlainRemainder, PlainShift}
+use Rattle.c_fragment.specs.Statement.{Statement, SetWord, SetCopy, SetOperation}
 use Rattle.c_fragment.specs.Statement.{Goto, GotoIfZero, SetLoad, StoreAt, SetFree, LogAt}
 use Rattle.c_fragment.specs.Statement.{FlushFirst, FenceAll, SetCall, TakeTick, TrapWith}
 use Rattle.c_fragment.specs.Statement.{ReturnWith, CFunction}
@@ -37,6 +39,10 @@ operation_text ShiftLeft a b = helper (codes "cn_shl(") a b
 operation_text ShiftRight a b = helper (codes "cn_shr(") a b
 operation_text Less a b = helper (codes "cn_lt(") a b
 operation_text LessOrEqual a b = helper (codes "cn_le(") a b
+operation_text BelowOrEqual a b = spaced (codes " <= ") a b
+operation_text PlainQuotient a b = helper (codes "cn_udiv0(") a b
+operation_text PlainRemainder a b = helper (codes "cn_urem0(") a b
+operation_text PlainShift a b = helper (codes "cn_ushr(") a b
 
 -- `rA + UINT64_C(o)` and a bracket
 abbrev pub address : (a o : ℕ) → List ℕ → List ℕ

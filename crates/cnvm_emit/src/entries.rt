@@ -10,6 +10,7 @@ use crate::name::c_name;
 use c_file::Entry;
 use c_types::Typed;
 use ir::{Ir, IrFunction};
+use nvm_base::List;
 use pm_machine::{TxEntry, TxList};
 use std::alloc::{AllocError, Global};
 
@@ -37,6 +38,14 @@ fn transactions(alloc: Global, functions: &[IrFunction]) -> Result<TxList, Alloc
     Ok(txs)
 }
 
+fn copied(alloc: Global, types: &[bool]) -> Result<List<bool>, AllocError>
+    ensures { IfOk result (λ list. list ≡ types.now) }
+{
+    let mut list = List::new(alloc);
+    list.extend(types)?;
+    Ok(list)
+}
+
 /// The entry of a transaction of this number.
 fn entry_of(alloc: Global, typed: &Typed, number: u64, tx: TxEntry) -> Result<Entry, AllocError>
     requires from { 1 ≤ number }
@@ -48,6 +57,7 @@ fn entry_of(alloc: Global, typed: &Typed, number: u64, tx: TxEntry) -> Result<En
         name: c_name(alloc, typed.tx_name(number))?,
         function: tx.function,
         parameters: tx.parameters,
+        types: copied(alloc, typed.parameter_types(number))?,
         rolls_back: typed.rolls_back(number),
         looks: typed.looks(number),
     })

@@ -9,7 +9,8 @@ use Rattle.std.specs.Prelude.{Option, Some, None, option_map}
 use Rattle.std.specs.List.{list_all}
 use Rattle.nvm_base.specs.declared.op.BinOp.{BinOp}
 use Rattle.nvm_base.specs.declared.op.BinOp.TheVariants.{Add, Sub, Mul, Div, Rem, Shl, Shr, And, Or}
-use Rattle.nvm_base.specs.declared.op.BinOp.TheVariants.{Xor, Lt, Le, Eq, Ne, Ult}
+use Rattle.nvm_base.specs.declared.op.BinOp.TheVariants.{Xor, Lt, Le, Eq, Ne, Ult, Ule, Udiv}
+use Rattle.nvm_base.specs.declared.op.BinOp.TheVariants.{Urem, Ushr}
 use Rattle.pool_map.specs.declared.shapes.Shapes.{Shapes}
 use Rattle.pool_map.specs.Trap.{trap_number}
 use Rattle.pool_layout.specs.declared.limits.Sizes.{Sizes}
@@ -106,6 +107,10 @@ divides Le = false
 divides Eq = false
 divides Ne = false
 divides Ult = false
+divides Ule = false
+divides Udiv = true
+divides Urem = true
+divides Ushr = false
 
 abbrev pub bin_code : BinOp → (to left right : ℕ) → List Local
 bin_code o to left right =

@@ -17,7 +17,7 @@ fn divides(op: BinOp) -> bool
     ensures { result ≡ divides op }
 {
     match op {
-        BinOp::Div | BinOp::Rem => true,
+        BinOp::Div | BinOp::Rem | BinOp::Udiv | BinOp::Urem => true,
         BinOp::Add
         | BinOp::Sub
         | BinOp::Mul
@@ -30,7 +30,9 @@ fn divides(op: BinOp) -> bool
         | BinOp::Le
         | BinOp::Eq
         | BinOp::Ne
-        | BinOp::Ult => false,
+        | BinOp::Ult
+        | BinOp::Ule
+        | BinOp::Ushr => false,
     }
 }
 

@@ -10,7 +10,7 @@ ghost use Rattle.pm_machine.specs.Logging.{has_room, unlisted, noted, turn_of};
 ghost use Rattle.pm_machine.specs.Effects.{events_of};
 ghost use Rattle.std.specs.Option.{ForSome};
 ghost use Rattle.pm_machine.specs.Runs.{heap_in, AreLines, IsTurn, IfEnded, due, due_step, end_of};
-ghost use Rattle.pm_machine.specs.Looking.{look_of};
+ghost use Rattle.pm_machine.specs.Looking.{look_of, IsLook};
 ghost use Rattle.pm_machine.specs.Stops.{stop_in};
 ghost use Rattle.pm_machine.specs.inside.Runs.{IsInRange, HasRoomFor, taken_events};
 ghost use Rattle.pm_machine.specs.inside.Runs.{IsStep, bare_events};
@@ -301,6 +301,18 @@ impl Machine {
             left = self.processor.run_silently(image, dev, left, steps);
         }
         Ok(End::Trapped(TrapKind::Steps))
+    }
+
+    /// One step of a run that only looks: its end, if it ends there. Nothing is played.
+    pub fn look_once<P: PmemWork>(&mut self, image: &Image, dev: &mut P) -> Option<End>
+        requires lines { (P.device dev.old).lines ≡ pool_lines image.now.parts.sizes }
+        requires on { (P.device dev.old).on ≡ true }
+        ensures same { P.device dev.new ≡ P.device dev.old }
+        ensures meaning { IsLook result self.new.processor (step image.now self.old.processor
+            (heap_in image.now.parts.sizes (P.device dev.old).cache)) }
+        ensures records { self.new.records ≡ self.old.records }
+    {
+        self.processor.look(dev, image)
     }
 
     /// Runs to the end as a run that only looks, in at most the image's steps: nothing is played,

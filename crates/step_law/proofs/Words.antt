@@ -1,11 +1,11 @@
 -- Each operation of C on numbers below 2^64 is the machine's on words.
-use Rattle.std.proofs.Common.{◌≡◌, ℕ, ◌+◌, ◌-◌, ◌*◌, ◌%◌, ◌^◌, ◌<◌, ◌≤◌, ℤ, pos, negsuc, ◌+ℤ◌}
-use Rattle.std.proofs.Common.{◌-ℤ◌, ◌*ℤ◌, refl, sym, ◌∙◌, ap, arith, Bool, true, false, ltb, Option}
-use Rattle.std.proofs.Common.{Some, None}
-use Rattle.std.specs.Prelude.{FitsSigned, bit_and, bit_or, bit_xor, ◌==◌, not, nat_lt, int_lt}
-use Rattle.std.specs.Prelude.{int_le, if◌then◌else◌}
+use Rattle.std.proofs.Common.{◌≡◌, ℕ, ◌+◌, ◌-◌, ◌*◌, ◌/◌, ◌%◌, ◌^◌, ◌<◌, ◌≤◌, ℤ, pos, negsuc}
+use Rattle.std.proofs.Common.{◌+ℤ◌, ◌-ℤ◌, ◌*ℤ◌, refl, sym, ◌∙◌, ap, arith, Bool, true, false, ltb}
+use Rattle.std.proofs.Common.{Option, Some, None, div-le_self, lt_of_le_of_lt}
+use Rattle.std.specs.Prelude.{FitsSigned, bit_and, bit_or, bit_xor, ◌==◌, not, nat_lt, nat_le}
+use Rattle.std.specs.Prelude.{int_lt, int_le, if◌then◌else◌}
 use Rattle.std.specs.Int.{w64, cast_signed, int_wrap}
-use Rattle.std.proofs.Math.Nat.{mod-lt}
+use Rattle.std.proofs.Math.Nat.{mod-lt, mod-le, mod-eq_of_lt}
 use Rattle.std.proofs.lemmas.Nat.{and_le_l, or_lt, xor_lt}
 use Rattle.std.proofs.lemmas.Bool.{ltb-true, ltb-false}
 use Rattle.std.proofs.lemmas.Int.{SFits-int_wrap, of_z-to_z, to_z-of_z}
@@ -15,7 +15,8 @@ use Rattle.nvm_base.specs.Operations as word
 use Rattle.nvm_base.specs.Applied.{applied}
 use Rattle.nvm_base.specs.declared.op.BinOp.{BinOp}
 use Rattle.nvm_base.specs.declared.op.BinOp.TheVariants.{Add, Sub, Mul, Div, Rem, Shl, Shr, And, Or}
-use Rattle.nvm_base.specs.declared.op.BinOp.TheVariants.{Xor, Lt, Le, Eq, Ne, Ult}
+use Rattle.nvm_base.specs.declared.op.BinOp.TheVariants.{Xor, Lt, Le, Eq, Ne, Ult, Ule, Udiv}
+use Rattle.nvm_base.specs.declared.op.BinOp.TheVariants.{Urem, Ushr}
 use Rattle.pm_machine.specs.Machine.{word_at}
 use Rattle.c_fragment.specs.Meaning.{c_value, one_if}
 use Rattle.c_fragment.specs.Translation.{operator_of}
@@ -79,6 +80,22 @@ module _ (a b : ℤ) (f : FitsSigned w64 a) (g : FitsSigned w64 b) where
   truth_same true = refl
   truth_same false = refl
 
+  -- a number below 2^64 is that of the word with its bits
+  bits_same : (n : ℕ) → n < 2 ^ 64 → n ≡ unsigned (int_wrap w64 (pos n))
+  unfolding int_wrap
+  bits_same n small =
+      sym (ap (λ (m : ℕ). unsigned (cast_signed w64 m)) (mod-eq_of_lt small)
+      ∙ of_z-to_z w64 n small)
+
+  unless_zero_same : (n : ℕ) → n < 2 ^ 64
+      → (if v == 0 then 0 else n) ≡ unsigned (if v == 0 then pos 0 else int_wrap w64 (pos n))
+  unless_zero_same n small = by (v == 0)
+    where
+      by : (t : Bool)
+          → (if t then 0 else n) ≡ unsigned (if t then pos 0 else int_wrap w64 (pos n))
+      by true = refl
+      by false = bits_same n small
+
   pub operation_same : (op : BinOp) → c_value (operator_of op) u v ≡ unsigned (applied op a b)
   operation_same Add = add_same
   operation_same Sub = sub_same
@@ -95,6 +112,13 @@ module _ (a b : ℤ) (f : FitsSigned w64 a) (g : FitsSigned w64 b) where
   operation_same Eq = truth_same (u == v)
   operation_same Ne = truth_same (not (u == v))
   operation_same Ult = truth_same (nat_lt u v)
+  operation_same Ule = truth_same (nat_le u v)
+  operation_same Udiv =
+      unless_zero_same (u / v) (lt_of_le_of_lt (div-le_self u v) (unsigned_small a f))
+  operation_same Urem =
+      unless_zero_same (u % v) (lt_of_le_of_lt (mod-le u v) (unsigned_small a f))
+  operation_same Ushr = bits_same (u / 2 ^ (v % 64))
+      (lt_of_le_of_lt (div-le_self u (2 ^ (v % 64))) (unsigned_small a f))
 
   truth_fits : (t : Bool) → FitsSigned w64 (truth t)
   truth_fits true = record { sfits = omega arith }
@@ -120,6 +144,10 @@ module _ (a b : ℤ) (f : FitsSigned w64 a) (g : FitsSigned w64 b) where
   applied_fits Eq = truth_fits (u == v)
   applied_fits Ne = truth_fits (not (u == v))
   applied_fits Ult = truth_fits (nat_lt u v)
+  applied_fits Ule = truth_fits (nat_le u v)
+  applied_fits Udiv = zero_fits (unsigned b == 0) (word.udiv a b) (SFits-int_wrap w64 _)
+  applied_fits Urem = zero_fits (unsigned b == 0) (word.urem a b) (SFits-int_wrap w64 _)
+  applied_fits Ushr = SFits-int_wrap w64 _
 
 -- the heap word at a word is that at its number, since the heap is small
 abbrev pub word_of : (H x : ℕ) → Option ℕ

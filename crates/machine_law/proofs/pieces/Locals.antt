@@ -7,7 +7,8 @@ use Rattle.std.proofs.lemmas.Bool.{cases_eq}
 use Rattle.std.proofs.lemmas.Int.{ints}
 use Rattle.nvm_base.specs.declared.op.BinOp.{BinOp}
 use Rattle.nvm_base.specs.declared.op.BinOp.TheVariants.{Add, Sub, Mul, Div, Rem, Shl, Shr, And, Or}
-use Rattle.nvm_base.specs.declared.op.BinOp.TheVariants.{Xor, Lt, Le, Eq, Ne, Ult}
+use Rattle.nvm_base.specs.declared.op.BinOp.TheVariants.{Xor, Lt, Le, Eq, Ne, Ult, Ule, Udiv}
+use Rattle.nvm_base.specs.declared.op.BinOp.TheVariants.{Urem, Ushr}
 use Rattle.nvm_base.specs.Operations.{unsigned}
 use Rattle.nvm_base.specs.Operations as word
 use Rattle.nvm_base.specs.Wrap.{IsWord}
@@ -207,6 +208,14 @@ module _ (s : Sizes) (logged : Site → Bool) (shapes : Shapes) (f p : ℕ) (reg
       (word.rem (register_at regs a) (register_at regs b))
       (unless (unsigned (register_at regs b) == 0)
       (word.rem (register_at regs a) (register_at regs b))) fine
+  bin_does Udiv to a b fine = division_does Udiv to a b
+      (word.udiv (register_at regs a) (register_at regs b))
+      (unless (unsigned (register_at regs b) == 0)
+      (word.udiv (register_at regs a) (register_at regs b))) fine
+  bin_does Urem to a b fine = division_does Urem to a b
+      (word.urem (register_at regs a) (register_at regs b))
+      (unless (unsigned (register_at regs b) == 0)
+      (word.urem (register_at regs a) (register_at regs b))) fine
   bin_does Add to a b word = one Add to a b
   bin_does Sub to a b word = one Sub to a b
   bin_does Mul to a b word = one Mul to a b
@@ -220,3 +229,5 @@ module _ (s : Sizes) (logged : Site → Bool) (shapes : Shapes) (f p : ℕ) (reg
   bin_does Eq to a b word = one Eq to a b
   bin_does Ne to a b word = one Ne to a b
   bin_does Ult to a b word = one Ult to a b
+  bin_does Ule to a b word = one Ule to a b
+  bin_does Ushr to a b word = one Ushr to a b

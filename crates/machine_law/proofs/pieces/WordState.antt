@@ -14,7 +14,8 @@ use Rattle.pool_map.proofs.Least.{least_free-some}
 use Rattle.pool_map.specs.PoolFits.{words_of}
 use Rattle.nvm_base.specs.declared.op.BinOp.{BinOp}
 use Rattle.nvm_base.specs.declared.op.BinOp.TheVariants.{Add, Sub, Mul, Div, Rem, Shl, Shr, And, Or}
-use Rattle.nvm_base.specs.declared.op.BinOp.TheVariants.{Xor, Lt, Le, Eq, Ne, Ult}
+use Rattle.nvm_base.specs.declared.op.BinOp.TheVariants.{Xor, Lt, Le, Eq, Ne, Ult, Ule, Udiv}
+use Rattle.nvm_base.specs.declared.op.BinOp.TheVariants.{Urem, Ushr}
 use Rattle.nvm_base.specs.Wrap.{IsWord, wrap}
 use Rattle.nvm_base.specs.Operations.{unsigned, truth}
 use Rattle.nvm_base.proofs.LawLemmas.{wraps, unsigned_law}
@@ -84,6 +85,10 @@ word_is Le a b wa wb = truth_word _
 word_is Eq a b wa wb = truth_word _
 word_is Ne a b wa wb = truth_word _
 word_is Ult a b wa wb = truth_word _
+word_is Ule a b wa wb = truth_word _
+word_is Udiv a b wa wb = unless_word (unsigned b == 0) _
+word_is Urem a b wa wb = unless_word (unsigned b == 0) _
+word_is Ushr a b wa wb = wrap_word _
 
 put_words : (regs : List ℤ) (to : ℕ) (v : ℤ) → HoldWords regs → IsWord v
     → HoldWords (put_register regs to v)
