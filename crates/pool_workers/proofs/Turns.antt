@@ -45,24 +45,24 @@ use Rattle.pool_workers.specs.Task.{machine_at, first_machine, going, sealed_tas
 use Rattle.pool_workers.specs.Task.{Turned, IsTask}
 use Rattle.pool_workers.specs.inside.Task.{stepped_left, stepped_answer}
 
-pub going_task : (image : Image) (m : Machine) (a k : ℕ) →
+pub going_task : (image : Image) (tx : ℕ) (m : Machine) (a k : ℕ) →
     AreLines (heap_words image.parts.sizes) m.processor.dirty → a ≤ 2 ^ 63 - 2 →
-    IsTask image (going m a k)
-going_task image m a k lines fits = by_test (k == 0) refl
+    IsTask image (going tx m a k)
+going_task image tx m a k lines fits = by_test (k == 0) refl
   where
     by_test : (b : Bool) → (k == 0) ≡ b →
-        IsTask image (if b then Ending (Trapped Steps) (length m.records.words)
-        else Running m a k)
+        IsTask image (if b then Ending tx (Trapped Steps) (length m.records.words)
+        else Running tx m a k)
     by_test true is = tt
     by_test false is = (lines, fits, (let ne : k ≢ 0 = eqb-false k 0 is in omega arith))
 
 module _ (image : Image) (tx : ℕ) (args : List ℤ) (s : Machine) (d b : Device) where
   pub seal_whole : (t : Task) → PlaysAll d (due_seal tx args d.cache) b →
-      t ≡ sealed_task image s b.cache → Turned answer.Went image (Begun tx args s) (Some t) d b
+      t ≡ sealed_task image tx s b.cache → Turned answer.Went image (Begun tx args s) (Some t) d b
   seal_whole t all is = (
     refl,
     ap Some (is
-        ∙ ap (sealed_task image s) (all_cache (due_seal tx args d.cache) d b all)),
+        ∙ ap (sealed_task image tx s) (all_cache (due_seal tx args d.cache) d b all)),
     all,
   )
 
@@ -97,56 +97,56 @@ pub first_is : (image : Image) (tx : ℕ) (args : List ℤ) (m : Machine) →
 first_is image tx args m state log = λ i. machine_at (state i) (log i)
 
 -- after the seal, from the attempt and the records that were read
-pub sealed_run : (image : Image) (m n : Machine) (a r most : ℕ) (t : Task) (c : Cache)
+pub sealed_run : (image : Image) (tx : ℕ) (m n : Machine) (a r most : ℕ) (t : Task) (c : Cache)
     (y x : Sizes) → y ≡ image.parts.sizes → x ≡ image.parts.sizes → a ≡ attempt_in y (view c) →
     r ≡ count (pool_of x) a (view c) → most ≡ image.parts.most → n.processor ≡ m.processor →
-    n.records ≡ record { policy = EndPool; count = r; words = [] } → t ≡ going n a most →
-    t ≡ sealed_task image m c
-sealed_run image m n a r most t c y x ys xs a_read r_read most_is state log is =
+    n.records ≡ record { policy = EndPool; count = r; words = [] } → t ≡ going tx n a most →
+    t ≡ sealed_task image tx m c
+sealed_run image tx m n a r most t c y x ys xs a_read r_read most_is state log is =
     let z = image.parts.sizes in
     let a_is : a ≡ attempt_in z (view c) = a_read ∙ ap (λ (s : Sizes). attempt_in s (view c)) ys in
     let r_is : r ≡ count_in z (view c) =
     r_read ∙ ap₂ (λ (s : Sizes) (b : ℕ). count (pool_of s) b (view c)) xs a_is in
     let log_is : n.records ≡ logging_on EndPool z c =
     log ∙ (λ i. record { policy = EndPool; count = r_is i; words = [] }) in
-    is ∙ (λ i. going (machine_at (state i) (log_is i)) (a_is i) (most_is i))
+    is ∙ (λ i. going tx (machine_at (state i) (log_is i)) (a_is i) (most_is i))
 
 -- what an instruction leaves, where the machine went as its turn goes
-module _ (image : Image) (m t : Machine) (a k : ℕ) (d b : Device) (w : Went) where
+module _ (image : Image) (tx : ℕ) (m t : Machine) (a k : ℕ) (d b : Device) (w : Went) where
   abbrev next : Turn
   next = turn_of image m.records m.processor (heap_in image.parts.sizes d.cache)
 
   on_past : (x : Turn) → IsTurn went.On t.records t.processor x →
-      going t a (k - 1) ≡ stepped_task a k m.records x
+      going tx t a (k - 1) ≡ stepped_task tx a k m.records x
   on_past (Plays es h s) is =
-      ap₂ (λ (g : Logging) (u : State). going (machine_at u g) a (k - 1)) is.0 is.1
+      ap₂ (λ (g : Logging) (u : State). going tx (machine_at u g) a (k - 1)) is.0 is.1
   on_past (Stops end) is = absurd is
 
   over_past : (end : End) (x : Turn) → IsTurn (went.Ended end) t.records t.processor x →
       t.records ≡ m.records →
-      Ending end (length t.records.words) ≡ stepped_task a k m.records x
+      Ending tx end (length t.records.words) ≡ stepped_task tx a k m.records x
   over_past end (Plays es h s) is same = absurd is
   over_past end (Stops other) is same =
-      ap₂ (λ (e : End) (g : Logging). Ending e (length g.words)) is same
+      ap₂ (λ (e : End) (g : Logging). Ending tx e (length g.words)) is same
 
-  pub on_task : IsTask image (Running m a k) → w ≡ went.On →
-      IsTurn w t.records t.processor next → (j : ℕ) → IsTask image (going t a j)
+  pub on_task : IsTask image (Running tx m a k) → w ≡ went.On →
+      IsTurn w t.records t.processor next → (j : ℕ) → IsTask image (going tx t a j)
   on_task task on is j =
       let z = image.parts.sizes in
       let heap = heap_in z d.cache in
       let o = step image m.processor heap in
-      going_task image t a j
+      going_task image tx t a j
       (turn_keeps z.records (heap_words z) m.records t.records t.processor o
       (keeps_step image heap m.processor o task.0 refl)
       (subst (λ (v : Went). IsTurn v t.records t.processor next) on is)) task.1
 
   pub on_turned : (s : Stepped) → w ≡ went.On → IsTurn w t.records t.processor next →
       PlaysAll d (due_step image a m.records m.processor d.cache) b →
-      stepped_answer s ≡ answer.Went → stepped_left s t a (k - 1) ≡ going t a (k - 1) →
-      Turned (stepped_answer s) image (Running m a k) (Some (stepped_left s t a (k - 1))) d b
+      stepped_answer s ≡ answer.Went → stepped_left s tx t a (k - 1) ≡ going tx t a (k - 1) →
+      Turned (stepped_answer s) image (Running tx m a k) (Some (stepped_left s tx t a (k - 1))) d b
   on_turned s on is all told left =
-      subst (λ (x : TurnAnswer). Turned x image (Running m a k)
-      (Some (stepped_left s t a (k - 1))) d b) (sym told) (
+      subst (λ (x : TurnAnswer). Turned x image (Running tx m a k)
+      (Some (stepped_left s tx t a (k - 1))) d b) (sym told) (
         refl,
         ap Some (left
             ∙ on_past next (subst (λ (v : Went). IsTurn v t.records t.processor next) on is)),
@@ -157,10 +157,10 @@ module _ (image : Image) (m t : Machine) (a k : ℕ) (d b : Device) (w : Went) w
       IsTurn w t.records t.processor next → IfEnded w (t.records ≡ m.records) →
       PlaysAll d (due_step image a m.records m.processor d.cache) b →
       l ≡ length t.records.words →
-      Turned answer.Went image (Running m a k) (Some (Ending end l)) d b
+      Turned answer.Went image (Running tx m a k) (Some (Ending tx end l)) d b
   over_turned end l over is same all long = (
     refl,
-    ap Some (ap (Ending end) long
+    ap Some (ap (Ending tx end) long
         ∙ over_past end next
         (subst (λ (v : Went). IsTurn v t.records t.processor next) over is)
         (subst (λ (v : Went). IfEnded v (t.records ≡ m.records)) over same)),

@@ -1,6 +1,6 @@
 -- The workers' transactions: for each worker its unfinished transaction, if there is one.
 use Rattle.std.specs.Prelude.{ℕ, ◌≡◌, ◌≢◌, ◌≤◌, ◌+◌, ◌*◌, List, Option, Some, None, slice_index_or}
-use Rattle.std.specs.Prelude.{length, ℤ}
+use Rattle.std.specs.Prelude.{length, ℤ, Bool}
 use Rattle.std.specs.List.{AllByRecursion}
 use Rattle.cache_model.specs.Cache.{view}
 use Rattle.pmem.specs.Device.{Device}
@@ -12,9 +12,8 @@ use Rattle.pool_workers.specs.declared.answer.BeginAnswer.{BeginAnswer}
 use Rattle.pool_workers.specs.declared.answer.BeginAnswer.TheVariants as begin
 use Rattle.pool_workers.specs.declared.answer.TurnAnswer.{TurnAnswer}
 use Rattle.pool_workers.specs.declared.task.Task.{Task}
-use Rattle.pool_workers.specs.declared.task.Task.TheVariants.{Begun}
 use Rattle.pool_workers.specs.Compartment.{device_in, first_line, Aside}
-use Rattle.pool_workers.specs.Task.{IsTaskOr, IsUncutOr, Turned, first_machine}
+use Rattle.pool_workers.specs.Task.{IsTaskOr, IsUncutOr, Turned, first_task}
 
 abbrev pub Tasks : Type 0
 Tasks = List (Option Task)
@@ -59,13 +58,13 @@ abbrev pub standing_at : Image → ℕ → Device → Standing
 standing_at image worker d = standing_of (view (compartment image worker d).cache)
 
 -- the answer for a worker without a transaction whose pool takes one
-abbrev pub Begins : BeginAnswer → Image → (tx : ℕ) → List ℤ → Option Task → Type 0
-Begins begin.Started image tx args o = o ≡ Some (Begun tx args (first_machine image tx args))
-Begins begin.NoMemory image tx args o = o ≡ None
-Begins begin.Busy image tx args o = ⊥
-Begins (begin.Unusable k) image tx args o = ⊥
-Begins begin.Numbers image tx args o = ⊥
-Begins begin.Off image tx args o = ⊥
+abbrev pub Begins : BeginAnswer → (looks : Bool) → Image → (tx : ℕ) → List ℤ → Option Task → Type 0
+Begins begin.Started looks image tx args o = o ≡ Some (first_task looks image tx args)
+Begins begin.NoMemory looks image tx args o = o ≡ None
+Begins begin.Busy looks image tx args o = ⊥
+Begins (begin.Unusable k) looks image tx args o = ⊥
+Begins begin.Numbers looks image tx args o = ⊥
+Begins begin.Off looks image tx args o = ⊥
 
 -- A turn of a worker that has a transaction, on a device that is on: in its own compartment
 -- `Turned` holds, and all else stays, except for fences.

@@ -18,7 +18,8 @@ pub enum BeginAnswer {
     Busy,
     /// The compartment has a mark.
     Unusable(TrapKind),
-    /// The number of finished transactions or the attempt isn't below 2^62.
+    /// The number of finished transactions or the attempt isn't below 2^62. It never comes for a
+    /// transaction that only looks.
     Numbers,
     Off,
     NoMemory,
@@ -32,10 +33,13 @@ pub enum TurnAnswer {
     Idle,
     /// A piece was played, and another follows.
     Went,
-    /// The transaction is retired; `logged` is the number of words of which its run has a record.
+    /// The transaction is retired, or only looked; `logged` is the number of words of which its run
+    /// has a record.
     Done { value: i64, logged: u64 },
     /// The run trapped, and the mark is durable.
     Trap(TrapKind),
+    /// The run trapped. The transaction only looked, so nothing is lost.
+    Aborted(TrapKind),
     Off,
     Failed,
     NoMemory,

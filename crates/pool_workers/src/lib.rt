@@ -8,6 +8,7 @@
 mod answer;
 mod creating;
 mod lens;
+mod look;
 mod opening;
 mod standing;
 mod task;
@@ -16,6 +17,7 @@ mod window;
 mod workers;
 
 pub use answer::{BeginAnswer, MakeFault, TurnAnswer};
+pub use look::Look;
 pub use task::Task;
 pub use window::{Origin, Window, first_line};
 pub use workers::Workers;

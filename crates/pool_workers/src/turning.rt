@@ -9,6 +9,7 @@ ghost use Rattle.pool_workers.specs.inside.Task.{IsBegun, left_task, stepped_lef
 ghost use Rattle.pool_workers.specs.inside.Task.{settled};
 
 use crate::answer::TurnAnswer;
+use crate::look::look_turn;
 use crate::task::{Stepped, Task, cut, going, last};
 use args_log::{SealAnswer, mark_unusable, retire, seal};
 use clobber_log::{attempt, count};
@@ -20,11 +21,11 @@ use std::mem;
 use std::sync::ledger::Ledger;
 
 /// The run of a call that was sealed.
-fn sealed<P: PmemWork>(image: &Image, mut machine: Machine, dev: &P) -> Task
+fn sealed<P: PmemWork>(image: &Image, tx: u64, mut machine: Machine, dev: &P) -> Task
     requires lines { (P.device dev.now).lines ≡ pool_lines image.now.parts.sizes }
     requires on { (P.device dev.now).on ≡ true }
     requires clean { machine.processor.dirty ≡ [] }
-    ensures run { result ≡ sealed_task image.now machine (P.device dev.now).cache }
+    ensures run { result ≡ sealed_task image.now tx machine (P.device dev.now).cache }
     ensures task { IsTask image.now result }
 {
     let Some(attempt) = attempt(image.sizes(), dev) else {
@@ -34,7 +35,7 @@ fn sealed<P: PmemWork>(image: &Image, mut machine: Machine, dev: &P) -> Task
         unreachable!()
     };
     machine.begin(Policy::EndPool, count);
-    going(machine, attempt, image.most())
+    going(tx, machine, attempt, image.most())
 }
 
 /// The answer of the turn that seals a call, and what it leaves.
@@ -64,7 +65,7 @@ fn seal_turn<P: PmemWork>(
     match seal(dev, tx, args.as_slice()) {
         SealAnswer::Done => SealTurn {
             answer: TurnAnswer::Went,
-            task: sealed(image, machine, dev),
+            task: sealed(image, tx, machine, dev),
         },
         SealAnswer::Off(phase) => SealTurn {
             answer: TurnAnswer::Off,
@@ -106,13 +107,16 @@ fn first_turn<P: PmemWork>(image: &Image, task: &mut Task, dev: &mut P) -> TurnA
             *task = left;
             answer
         }
-        Task::Running { .. } | Task::Ending { .. } | Task::Cut { .. } => unreachable!(),
+        Task::Running { .. } | Task::Ending { .. } | Task::Looking { .. } | Task::Cut { .. } => {
+            unreachable!()
+        }
     }
 }
 
 /// Whether a run goes on. If no more instructions are allowed it ends as if it had no tick left.
 fn goes_on(machine: &Machine, left: u128) -> Stepped
-    ensures left { (a : ℕ) → stepped_left result machine.now a left ≡ going machine.now a left }
+    ensures left { (tx a : ℕ) → stepped_left result tx machine.now a left
+        ≡ going tx machine.now a left }
     ensures answer { stepped_answer result ≡ TurnAnswer.Went }
 {
     if left == 0 {
@@ -127,6 +131,7 @@ fn goes_on(machine: &Machine, left: u128) -> Stepped
 /// One instruction of a run, after its record if it takes one.
 fn step_turn<P: PmemWork>(
     image: &Image,
+    tx: u64,
     machine: &mut Machine,
     attempt: u64,
     left: &mut u128,
@@ -134,14 +139,14 @@ fn step_turn<P: PmemWork>(
 ) -> Stepped
     requires lines { (P.device dev.old).lines ≡ pool_lines image.now.parts.sizes }
     requires on { (P.device dev.old).on ≡ true }
-    requires task { IsTask image.now (task_of.Running machine.old attempt left.old) }
+    requires task { IsTask image.now (task_of.Running tx machine.old attempt left.old) }
     ensures turned { Turned (stepped_answer result) image.now
-        (task_of.Running machine.old attempt left.old)
-        (Some (stepped_left result machine.new attempt left.new))
+        (task_of.Running tx machine.old attempt left.old)
+        (Some (stepped_left result tx machine.new attempt left.new))
         (P.device dev.old) (P.device dev.new) }
     ensures uncut { IsGoing (stepped_answer result) →
-        IsUncut (stepped_left result machine.new attempt left.new) }
-    ensures task { IsTask image.now (stepped_left result machine.new attempt left.new) }
+        IsUncut (stepped_left result tx machine.new attempt left.new) }
+    ensures task { IsTask image.now (stepped_left result tx machine.new attempt left.new) }
     ensures lines { (P.device dev.new).lines ≡ (P.device dev.old).lines }
 {
     match machine.step_on(image, attempt, dev) {
@@ -160,14 +165,14 @@ fn step_turn<P: PmemWork>(
 }
 
 /// The answer of an instruction's turn. A run that doesn't go on gives its place to what follows.
-fn settle(task: &mut Task, stepped: Stepped) -> TurnAnswer
+fn settle(task: &mut Task, tx: u64, stepped: Stepped) -> TurnAnswer
     ensures answer { result ≡ stepped_answer stepped }
-    ensures left { task.new ≡ settled stepped task.old }
+    ensures left { task.new ≡ settled stepped tx task.old }
 {
     match stepped {
         Stepped::On => TurnAnswer::Went,
         Stepped::Over { end, logged } => {
-            *task = Task::Ending { end, logged };
+            *task = Task::Ending { tx, end, logged };
             TurnAnswer::Went
         }
         Stepped::Refused(Refusal::Off) => cut(task, TurnAnswer::Off, Phase::Sealed),
@@ -180,14 +185,15 @@ fn settle(task: &mut Task, stepped: Stepped) -> TurnAnswer
 fn end_turn<P: PmemWork>(
     image: &Image,
     task: &mut Task,
+    tx: u64,
     end: End,
     logged: u64,
     dev: &mut P,
 ) -> TurnAnswer
     requires lines { (P.device dev.old).lines ≡ pool_lines image.now.parts.sizes }
     requires on { (P.device dev.old).on ≡ true }
-    requires task { task.old ≡ task_of.Ending end logged }
-    ensures turned { Turned result image.now (task_of.Ending end logged)
+    requires task { task.old ≡ task_of.Ending tx end logged }
+    ensures turned { Turned result image.now (task_of.Ending tx end logged)
         (left_task result task.new) (P.device dev.old) (P.device dev.new) }
     ensures uncut { IsGoing result → IsUncutOr (left_task result task.new) }
     ensures task { IsTask image.now task.new }
@@ -219,20 +225,24 @@ pub(crate) fn advance<P: PmemWork, L: Ledger>(
 {
     match task {
         Task::Running {
+            tx,
             machine,
             attempt,
             left,
         } => {
             steps.tick();
-            let stepped = step_turn(image, machine, *attempt, left, dev);
-            settle(task, stepped)
+            let tx = *tx;
+            let stepped = step_turn(image, tx, machine, *attempt, left, dev);
+            settle(task, tx, stepped)
         }
         Task::Begun { .. } => first_turn(image, task, dev),
-        Task::Ending { end, logged } => {
+        Task::Ending { tx, end, logged } => {
+            let tx = *tx;
             let end = *end;
             let logged = *logged;
-            end_turn(image, task, end, logged, dev)
+            end_turn(image, task, tx, end, logged, dev)
         }
+        Task::Looking { look, .. } => look_turn(image, look, dev, steps),
         Task::Cut { .. } => TurnAnswer::Off,
     }
 }

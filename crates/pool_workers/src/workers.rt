@@ -2,6 +2,7 @@
 
 ghost use Rattle.std.specs.Prelude.{◌≡◌, ◌≢◌, ◌+◌, ◌*◌, ◌≤◌, ◌<◌, true, false, Some, None, length};
 ghost use Rattle.std.specs.Prelude.{slice_set, option_map, IfOk, IfErr, OnOk, IsErrOf, replicate};
+ghost use Rattle.std.specs.Option.{option_map_or};
 ghost use Rattle.pmem.specs.Device.{FaultsRose, blanked};
 ghost use Rattle.pmem.specs.Played.{PlaysAll};
 ghost use Rattle.pool_layout.specs.Sizes.{pool_lines};
@@ -12,17 +13,18 @@ ghost use Rattle.tx_run.specs.declared.standing.Standing.TheVariants as stands;
 ghost use Rattle.recovery.specs.Recovered.{IsRecovered};
 ghost use Rattle.pool_workers.specs.declared.answer.BeginAnswer.TheVariants as begins;
 ghost use Rattle.pool_workers.specs.declared.task.Task.{Task};
-ghost use Rattle.pool_workers.specs.declared.task.Task.TheVariants as task_of;
-ghost use Rattle.pool_workers.specs.Task.{first_machine, IsUncutOr, IsGoing, ticks_of, task_phase};
+ghost use Rattle.pool_workers.specs.Task.{first_task, IsUncutOr, IsGoing, ticks_of, task_phase};
+ghost use Rattle.pool_workers.specs.Task.{task_tx};
 ghost use Rattle.pool_workers.specs.Making.{creations, Unmade};
 ghost use Rattle.pool_workers.specs.Crew.{task_at, AreTasks, OtherTasksStay, compartment};
 ghost use Rattle.pool_workers.specs.Crew.{HasCompartments, StaysAside, standing_at, Begins, TurnOf};
 
 use crate::answer::{BeginAnswer, MakeFault, TurnAnswer};
 use crate::creating::{create_pools, idle};
+use crate::look::Look;
 use crate::opening::{recover_on, turn_task};
 use crate::standing::assess_at;
-use crate::task::{Task, is_last, phase_of, stop_of};
+use crate::task::{Task, is_last, phase_of, stop_of, tx_of};
 use crate::window::first_line;
 use nvm_base::{Steps, Words};
 use pm_machine::{Image, Machine, Policy, Spare, Stop};
@@ -67,14 +69,25 @@ fn copied(alloc: Global, words: &[i64]) -> Result<Words, AllocError>
 
 /// A transaction at its start. The memory for the machine's frames is allocated here.
 #[tactic(auto, using(crate::proofs::Turns::first_is))]
-fn new_task(alloc: Global, image: &Image, tx: u64, args: &[i64]) -> Result<Task, AllocError>
+fn new_task(
+    alloc: Global,
+    image: &Image,
+    tx: u64,
+    args: &[i64],
+    looks: bool,
+) -> Result<Task, AllocError>
     requires first { 1 ≤ tx }
     requires last { tx ≤ length image.now.parts.txs }
-    ensures { IfOk result
-        (λ t. t ≡ task_of.Begun tx args.now (first_machine image.now tx args.now)) }
+    ensures { IfOk result (λ t. t ≡ first_task looks image.now tx args.now) }
 {
     let mut machine = Machine::new(alloc, image, tx, args)?;
     machine.begin(Policy::EndPool, 0);
+    if looks {
+        return Ok(Task::Looking {
+            tx,
+            look: Look::Fresh { machine },
+        });
+    }
     let args = copied(alloc, args)?;
     Ok(Task::Begun { tx, args, machine })
 }
@@ -115,6 +128,17 @@ impl Workers {
         match &self.tasks[worker as usize] {
             None => None,
             Some(task) => Some(phase_of(task)),
+        }
+    }
+
+    /// The number of the worker's transaction; 0 if it has none, or its turn was refused.
+    pub fn tx(&self, worker: u32) -> u64
+        requires worker { worker < length self.now }
+        ensures { result ≡ option_map_or task_tx (task_at self.now worker) 0 }
+    {
+        match &self.tasks[worker as usize] {
+            None => 0,
+            Some(task) => tx_of(task),
         }
     }
 
@@ -171,10 +195,10 @@ impl Workers {
         self.tasks.len() as u32
     }
 
-    /// The next turn of a worker: the seal, one instruction, or the retirement or the mark. The
-    /// answer is `Idle` exactly if the worker has no transaction. It is `Off` on a device that is
-    /// off, where nothing has changed, and if the power went at an event. An instruction is one
-    /// step.
+    /// The next turn of a worker: the seal, one instruction, or the retirement or the mark. One
+    /// that only looks has as many turns and plays nothing. The answer is `Idle` exactly if the
+    /// worker has no transaction. It is `Off` on a device that is off, where nothing has changed,
+    /// and if the power went at an event. An instruction is one step.
     pub fn turn<P: Pmem + Drop, L: Ledger>(
         &mut self,
         image: &Image,
@@ -256,15 +280,16 @@ impl Workers {
         answer
     }
 
-    /// Begins a transaction, counted from 1, with as many arguments as it has parameters. It checks
-    /// first whether the worker is busy, then the device, then the mark of its compartment, then
-    /// the numbers. It plays no event.
+    /// Begins a transaction, counted from 1, with as many arguments as it has parameters, which
+    /// only looks, or doesn't. It checks first whether the worker is busy, then the device, then
+    /// the mark of its compartment, then the numbers, unless it only looks. It plays no event.
     pub fn begin<P: Pmem>(
         &mut self,
         image: &Image,
         worker: u32,
         tx: u64,
         args: &[i64],
+        looks: bool,
         dev: &P,
     ) -> BeginAnswer
         requires worker { worker < length self.old }
@@ -280,12 +305,17 @@ impl Workers {
             (P.device dev.now).on ≡ true →
             standing_at image.now worker (P.device dev.now) ≡ stands.Unusable kind →
             (result ≡ begins.Unusable kind) × (self.new ≡ self.old) }
-        ensures numbers { task_at self.old worker ≡ None → (P.device dev.now).on ≡ true →
+        ensures numbers { looks ≡ false → task_at self.old worker ≡ None →
+            (P.device dev.now).on ≡ true →
             standing_at image.now worker (P.device dev.now) ≡ stands.Numbers →
             (result ≡ BeginAnswer.Numbers) × (self.new ≡ self.old) }
         ensures ready { task_at self.old worker ≡ None → (P.device dev.now).on ≡ true →
             standing_at image.now worker (P.device dev.now) ≡ stands.Ready →
-            Begins result image.now tx args.now (task_at self.new worker) }
+            Begins result looks image.now tx args.now (task_at self.new worker) }
+        ensures unnumbered { looks ≡ true → task_at self.old worker ≡ None →
+            (P.device dev.now).on ≡ true →
+            standing_at image.now worker (P.device dev.now) ≡ stands.Numbers →
+            Begins result looks image.now tx args.now (task_at self.new worker) }
         ensures uncut { IsUncutOr (task_at self.old worker) → IsUncutOr (task_at self.new worker) }
         ensures others { OtherTasksStay worker self.old self.new }
         ensures count { length self.new ≡ length self.old }
@@ -298,9 +328,13 @@ impl Workers {
             Standing::Ready => {}
             Standing::Off => return BeginAnswer::Off,
             Standing::Unusable(kind) => return BeginAnswer::Unusable(kind),
-            Standing::Numbers => return BeginAnswer::Numbers,
+            Standing::Numbers => {
+                if !looks {
+                    return BeginAnswer::Numbers;
+                }
+            }
         }
-        match new_task(self.alloc, image, tx, args) {
+        match new_task(self.alloc, image, tx, args, looks) {
             Ok(task) => {
                 self.put_task(worker, Some(task));
                 BeginAnswer::Started

@@ -16,6 +16,7 @@ turn_rise answer.Idle image t o d b turned = absurd turned
 turn_rise answer.Went image t o d b turned = all_rise (piece_of image t d.cache) d b turned.2
 turn_rise (answer.Done v l) image t o d b turned = all_rise (piece_of image t d.cache) d b turned.2
 turn_rise (answer.Trap k) image t o d b turned = all_rise (piece_of image t d.cache) d b turned.2
+turn_rise (answer.Aborted k) image t o d b turned = all_rise (piece_of image t d.cache) d b turned.2
 turn_rise answer.Off image t o d b turned =
     part_rise (piece_of image t d.cache) refusal.Off d b turned.0
 turn_rise answer.Failed image t o d b turned =

@@ -38,6 +38,7 @@ use Rattle.tx_run.specs.Due.{tail_events, due_run, due_seal, due_call}
 use Rattle.recovery.specs.Due.{due_clean}
 use Rattle.pool_workers.specs.declared.task.Task.{Task}
 use Rattle.pool_workers.specs.declared.task.Task.TheVariants.{Begun, Running, Ending, Cut}
+use Rattle.pool_workers.specs.declared.task.Task.TheVariants.{Looking}
 use Rattle.workers_law.specs.WithinPool.{InsideLaw}
 use Rattle.workers_law.specs.Interleaved.{AreInside}
 use Rattle.pool_workers.specs.Task.{piece_of, IsTask}
@@ -216,11 +217,12 @@ inside_piece : (image : Image) (t : Task) (c : Cache) → IsTask image t →
 inside_piece image (Begun tx args m) c task =
     inside_seal (pool_lines image.parts.sizes) (cast_signed w64 tx) (take ARGUMENTS args)
     (number_after (view c DONE)) (omega arith) (few ARGUMENTS args)
-inside_piece image (Running m a k) c task =
+inside_piece image (Running tx m a k) c task =
     let h = heap_in image.parts.sizes c in
     inside_events image.parts.sizes a m.records h (turn_of image m.records m.processor h)
     (inside_next image a m.records m.processor c task.0)
-inside_piece image (Ending end l) c task = inside_tail image.parts.sizes end c
+inside_piece image (Ending tx end l) c task = inside_tail image.parts.sizes end c
+inside_piece image (Looking tx l) c task = tt
 inside_piece image (Cut p) c task = tt
 
 inside_clean : (s : Sizes) (m : ℕ) (c : Cache) → AreInside (pool_lines s) (due_clean s m c)

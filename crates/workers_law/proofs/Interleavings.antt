@@ -29,6 +29,7 @@ going_whole answer.Idle image t o d b going h = absurd h
 going_whole answer.Went image t o d b going h = h
 going_whole (answer.Done v l) image t o d b going h = h
 going_whole (answer.Trap k) image t o d b going h = h
+going_whole (answer.Aborted k) image t o d b going h = h
 going_whole answer.Off image t o d b going h = absurd going
 going_whole answer.Failed image t o d b going h = absurd going
 going_whole answer.NoMemory image t o d b going h = absurd going
@@ -66,6 +67,9 @@ module _ (image : Image) where
   turned_shows s (answer.Trap k) t o d b task h turned =
       some_shows s o b.cache
       ((turns image s.tx s.args s.cache).1 (answer.Trap k) t o d b task h turned)
+  turned_shows s (answer.Aborted k) t o d b task h turned =
+      some_shows s o b.cache
+      ((turns image s.tx s.args s.cache).1 (answer.Aborted k) t o d b task h turned)
   turned_shows s answer.Off t o d b task h turned =
       (turns image s.tx s.args s.cache).3 Off t d b task h turned.0
   turned_shows s answer.Failed t o d b task h turned =

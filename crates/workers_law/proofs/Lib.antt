@@ -2,6 +2,7 @@ pub mod Asides
 pub mod Compartments
 pub mod Stands
 pub mod Fates
+pub mod LookTurned
 pub mod CutsTurned
 pub mod Powers
 pub mod FaultCounts

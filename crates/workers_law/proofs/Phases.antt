@@ -46,9 +46,13 @@ use Rattle.pool_workers.specs.declared.answer.TurnAnswer.{TurnAnswer}
 use Rattle.pool_workers.specs.declared.answer.TurnAnswer.TheVariants as answer
 use Rattle.pool_workers.specs.declared.task.Task.{Task}
 use Rattle.pool_workers.specs.declared.task.Task.TheVariants.{Begun, Running, Ending, Cut}
+use Rattle.pool_workers.specs.declared.task.Task.TheVariants.{Looking}
+use Rattle.pool_workers.specs.declared.look.Look.{Look}
+use Rattle.pool_workers.specs.declared.look.Look.TheVariants.{Fresh, Going, Seen}
 use Rattle.workers_law.specs.Phases.{InPhase, TurnPhaseLaw}
-use Rattle.pool_workers.specs.Task.{machine_at, going, stepped_task, task_phase, IsUncut, WentWhole}
-use Rattle.pool_workers.specs.Task.{Turned}
+use Rattle.pool_workers.specs.Task.{machine_at, first_task, going, stepped_task, task_phase}
+use Rattle.pool_workers.specs.Task.{look_past, IsUncut, WentWhole, Turned}
+use Rattle.pool_workers.specs.Look.{going_look, going_past}
 use Rattle.workers_law.proofs.Stands.{part_of}
 use Rattle.workers_law.specs.Fenced.{fenced_cache}
 
@@ -209,20 +213,20 @@ few_args args = few ARGUMENTS args
     few (suc n) (x ∷ xs) = let h = few n xs in omega arith
 
 module _ (image : Image) (k : ℤ) where
-  going_phase : (m : Machine) (a j : ℕ) (c : Cache) → seal.phase_of (c 5) k ≡ Sealed →
-      InPhase k (going m a j) c
-  going_phase m a j c is = by_test (j == 0)
+  going_phase : (tx : ℕ) (m : Machine) (a j : ℕ) (c : Cache) → seal.phase_of (c 5) k ≡ Sealed →
+      InPhase k (going tx m a j) c
+  going_phase tx m a j c is = by_test (j == 0)
     where
       by_test : (b : Bool) →
-          InPhase k (if b then Ending (Trapped Steps) (length m.records.words)
-          else Running m a j) c
+          InPhase k (if b then Ending tx (Trapped Steps) (length m.records.words)
+          else Running tx m a j) c
       by_test true = is
       by_test false = is
 
-  stepped_phase : (a j : ℕ) (g : Logging) (x : Turn) (c : Cache) →
-      seal.phase_of (c 5) k ≡ Sealed → InPhase k (stepped_task a j g x) c
-  stepped_phase a j g (Plays es h t) c is = going_phase (machine_at t h) a (j - 1) c is
-  stepped_phase a j g (Stops end) c is = is
+  stepped_phase : (tx a j : ℕ) (g : Logging) (x : Turn) (c : Cache) →
+      seal.phase_of (c 5) k ≡ Sealed → InPhase k (stepped_task tx a j g x) c
+  stepped_phase tx a j g (Plays es h t) c is = going_phase tx (machine_at t h) a (j - 1) c is
+  stepped_phase tx a j g (Stops end) c is = is
 
   some_to : (t u : Task) (c : Cache) → Some u ≡ Some t → InPhase k t c → InPhase k u c
   some_to t u c is h = subst (λ (x : Task). InPhase k x c) (sym (ap (or_else t) is)) h
@@ -230,6 +234,14 @@ module _ (image : Image) (k : ℤ) where
       or_else : Task → Option Task → Task
       or_else d None = d
       or_else d (Some z) = z
+
+  look_phase : (tx : ℕ) (l : Look) (u : Task) (h : Words) (c : Cache) → LacksSeal k (c 5)
+      → Some u ≡ look_past image tx l h → InPhase k u c
+  look_phase tx (Fresh m) u h c lacks is =
+      some_to (Looking tx (going_look m image.parts.most)) u c is lacks
+  look_phase tx (Going m j) u h c lacks is =
+      some_to (Looking tx (going_past image m j h)) u c is lacks
+  look_phase tx (Seen end) u h c lacks is = absurd cc
 
   whole : (a : TurnAnswer) (t u : Task) (d b : Device) → IsUncut t → InPhase k t d.cache →
       WentWhole a image t (Some u) d b → InPhase k u b.cache
@@ -241,18 +253,21 @@ module _ (image : Image) (k : ℤ) where
       (sym h.1) went.2) in
       let c1 = play d.cache (due_seal tx args d.cache) in
       let left = machine_at m.processor (logging_on EndPool z c1) in
-      some_to (going left (attempt_in z (view c1)) image.parts.most) u b.cache went.1
-      (going_phase left (attempt_in z (view c1)) image.parts.most b.cache sealed)
-  whole a (Running m v j) u d b uncut h went =
+      some_to (going tx left (attempt_in z (view c1)) image.parts.most) u b.cache went.1
+      (going_phase tx left (attempt_in z (view c1)) image.parts.most b.cache sealed)
+  whole a (Running tx m v j) u d b uncut h went =
       let z = image.parts.sizes in
       let x = turn_of image m.records m.processor (heap_in z d.cache) in
       let events = turn_events z v m.records (heap_in z d.cache) x in
       let sealed : seal.phase_of (b.cache 5) k ≡ Sealed =
       ap (λ (c : Cache). seal.phase_of (c 5) k) (all_cache events d b went.2)
       ∙ sealed_play k events d.cache (beside_turn z v m.records (heap_in z d.cache) x) h in
-      some_to (stepped_task v j m.records x) u b.cache went.1
-      (stepped_phase v j m.records x b.cache sealed)
-  whole a (Ending end l) u d b uncut h went = absurd (let is = went.1 in cc)
+      some_to (stepped_task tx v j m.records x) u b.cache went.1
+      (stepped_phase tx v j m.records x b.cache sealed)
+  whole a (Ending tx end l) u d b uncut h went = absurd (let is = went.1 in cc)
+  whole a (Looking tx l) u d b uncut h went =
+      look_phase tx l u (heap_in image.parts.sizes d.cache) b.cache
+      (subst (λ (x : Device). LacksSeal k (x.cache 5)) (sym went.2) h) went.1
   whole a (Cut p) u d b uncut h went = absurd uncut
 
   part_sealed : (es : List CacheEvent) (d b : Device) → AreBeside es → PlaysPart Off d es b →
@@ -278,15 +293,16 @@ module _ (image : Image) (k : ℤ) where
         went = turned.1.went;
       })
   cut (Begun tx args m) Sealed d b h turned = absurd turned.1
-  cut (Running m v j) p d b h turned =
+  cut (Running tx m v j) p d b h turned =
       let z = image.parts.sizes in
       let x = turn_of image m.records m.processor (heap_in z d.cache) in
       part_sealed (turn_events z v m.records (heap_in z d.cache) x) d b
       (beside_turn z v m.records (heap_in z d.cache) x) turned.0 h ∙ sym turned.1
-  cut (Ending end l) p d b h turned =
+  cut (Ending tx end l) p d b h turned =
       let z = image.parts.sizes in
       part_sealed (tail_events EndPool z end d.cache) d b (beside_tail z end d.cache) turned.0 h
       ∙ sym turned.1
+  cut (Looking tx l) p d b h turned = absurd turned.0
   cut (Cut q) p d b h turned = absurd turned.0
 
 fence : (k : ℤ) (t : Task) (c : Cache) (f : Bool) → IsUncut t → InPhase k t c →
@@ -297,15 +313,23 @@ fence k (Begun tx args m) c true uncut h = (
   (λ v version. h.0 v (fence_version c 5 v version)),
   h.1 ∙ ap number_after (sym (view_fence c DONE)),
 )
-fence k (Running m a j) c true uncut h = sealed_fence k (c 5) h
-fence k (Ending end l) c true uncut h = sealed_fence k (c 5) h
+fence k (Running tx m a j) c true uncut h = sealed_fence k (c 5) h
+fence k (Ending tx end l) c true uncut h = sealed_fence k (c 5) h
+fence k (Looking tx l) c true uncut h = λ v version. h v (fence_version c 5 v version)
 fence k (Cut p) c true uncut h = absurd uncut
 
 tells : (k : ℤ) (t : Task) (c : Cache) → InPhase k t c → seal.phase_of (c 5) k ≡ task_phase t
 tells k (Begun tx args m) c h = lacks_phase k (c 5) h.0
-tells k (Running m a j) c h = h
-tells k (Ending end l) c h = h
+tells k (Running tx m a j) c h = h
+tells k (Ending tx end l) c h = h
+tells k (Looking tx l) c h = lacks_phase k (c 5) h
 tells k (Cut p) c h = h
 
+begins : (looks : Bool) (image : Image) (k : ℤ) (tx : ℕ) (args : List ℤ) (c : Cache) →
+    LacksSeal k (c 5) → k ≡ number_after (view c DONE) →
+    InPhase k (first_task looks image tx args) c
+begins true image k tx args c lacks number = lacks
+begins false image k tx args c lacks number = (lacks, number)
+
 pub phases : TurnPhaseLaw
-phases = ((λ image k tx args c lacks number. (lacks, number)), whole, fence, cut, tells)
+phases = (begins, whole, fence, cut, tells)

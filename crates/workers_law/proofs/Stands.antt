@@ -39,6 +39,9 @@ use Rattle.crash_law.proofs.Fences.{fences_add_none}
 use Rattle.pool_workers.specs.declared.answer.TurnAnswer.{TurnAnswer}
 use Rattle.pool_workers.specs.declared.task.Task.{Task}
 use Rattle.pool_workers.specs.declared.task.Task.TheVariants.{Begun, Running, Ending, Cut}
+use Rattle.pool_workers.specs.declared.task.Task.TheVariants.{Looking}
+use Rattle.pool_workers.specs.declared.look.Look.{Look}
+use Rattle.pool_workers.specs.declared.look.Look.TheVariants.{Fresh, Going, Seen}
 use Rattle.pool_workers.specs.Task.{machine_at, first_machine, going, stepped_task, piece_of}
 use Rattle.pool_workers.specs.Task.{task_past, IsTask, WentWhole}
 use Rattle.workers_law.specs.Standing.{ShowsPlayed, ShowsSome, TaskStands, StandsOr, LeftLaw}
@@ -47,22 +50,22 @@ use Rattle.workers_law.specs.Fenced.{fenced_cache}
 use Rattle.workers_law.specs.Left.{run_left, left_of, left_or}
 use Rattle.workers_law.proofs.Powers.{fenced_view}
 
-going_left : (image : Image) (m : Machine) (a k : ℕ) (c : Cache) →
-    left_of image (going m a k) c ≡ run_left image a k m.records m.processor c
-going_left image m a zero c = refl
-going_left image m a (suc k) c =
+going_left : (image : Image) (tx : ℕ) (m : Machine) (a k : ℕ) (c : Cache) →
+    left_of image (going tx m a k) c ≡ run_left image a k m.records m.processor c
+going_left image tx m a zero c = refl
+going_left image tx m a (suc k) c =
     ap (λ (b : Bool). left_of image
-    (if b then Ending (Trapped Steps) (length m.records.words) else Running m a (suc k)) c)
+    (if b then Ending tx (Trapped Steps) (length m.records.words) else Running tx m a (suc k)) c)
     (ne_eqb (suc k) 0 (λ e. let none : ⊥ = omega arith in none))
 
-turn_left : (image : Image) (a k : ℕ) (g : Logging) (c : Cache) (x : Turn) →
+turn_left : (image : Image) (tx a k : ℕ) (g : Logging) (c : Cache) (x : Turn) →
     let z = image.parts.sizes in
     let y = owing z a g (heap_in z c) (λ es h t. due image a k h t (played z a g c es)) x in
     let piece = turn_events z a g (heap_in z c) x in
     y.events ++ tail_events EndPool z (end_of y.fate) (play c y.events)
-    ≡ piece ++ left_of image (stepped_task a (suc k) g x) (play c piece)
-turn_left image a k g c (Stops end) = refl
-turn_left image a k g c (Plays es h t) =
+    ≡ piece ++ left_of image (stepped_task tx a (suc k) g x) (play c piece)
+turn_left image tx a k g c (Stops end) = refl
+turn_left image tx a k g c (Plays es h t) =
     let z = image.parts.sizes in
     let events = events_all z a g.count (heap_in z c) es in
     let x = due image a k h t (play c events) in
@@ -71,11 +74,18 @@ turn_left image a k g c (Plays es h t) =
     ∙ ap (λ (d : Cache). events ++ (x.events ++ tail_events EndPool z (end_of x.fate) d))
     (play_append c events x.events)
     ∙ ap (λ (fs : List CacheEvent). events ++ fs)
-    (sym (going_left image (machine_at t h) a k (play c events))
-    ∙ ap (λ (j : ℕ). left_of image (going (machine_at t h) a j) (play c events)) (pred k))
+    (sym (going_left image tx (machine_at t h) a k (play c events))
+    ∙ ap (λ (j : ℕ). left_of image (going tx (machine_at t h) a j) (play c events)) (pred k))
   where
     pred : (j : ℕ) → j ≡ suc j - 1
     pred j = omega arith
+
+-- a look has nothing left
+look_none : (image : Image) (tx : ℕ) (l : Look) (c : Cache) →
+    [] ≡ left_or image (task_past image (Looking tx l) c) c
+look_none image tx (Fresh m) c = refl
+look_none image tx (Going m k) c = refl
+look_none image tx (Seen end) c = refl
 
 pub left_next : LeftLaw
 unfolding due_call
@@ -84,15 +94,16 @@ left_next image (Begun tx args m) c task =
     let z = image.parts.sizes in
     ap (λ (x : Machine). due_seal tx args c ++ due_run EndPool image x.processor c1) (sym task)
     ∙ ap (λ (es : List CacheEvent). due_seal tx args c ++ es)
-    (sym (going_left image (machine_at m.processor (logging_on EndPool z c1))
+    (sym (going_left image tx (machine_at m.processor (logging_on EndPool z c1))
     (attempt_in z (view c1)) image.parts.most c1))
-left_next image (Running m a zero) c task =
+left_next image (Running tx m a zero) c task =
     absurd (let h : 0 < 0 = task.2 in let no : ⊥ = omega arith in no)
-left_next image (Running m a (suc k)) c task =
-    turn_left image a k m.records c
+left_next image (Running tx m a (suc k)) c task =
+    turn_left image tx a k m.records c
     (turn_of image m.records m.processor (heap_in image.parts.sizes c))
-left_next image (Ending end l) c task =
+left_next image (Ending tx end l) c task =
     sym (append-nil (tail_events EndPool image.parts.sizes end c))
+left_next image (Looking tx l) c task = look_none image tx l c
 left_next image (Cut p) c task = refl
 
 -- only the newest versions matter
@@ -166,8 +177,9 @@ same_call image tx args c d same =
 
 pub same_left : SameViewLaw
 same_left image (Begun tx args m) c d same = same_call image tx args c d same
-same_left image (Running m a k) c d same = same_run image a k m.records m.processor c d same
-same_left image (Ending end l) c d same = same_tail image.parts.sizes end c d same
+same_left image (Running tx m a k) c d same = same_run image a k m.records m.processor c d same
+same_left image (Ending tx end l) c d same = same_tail image.parts.sizes end c d same
+same_left image (Looking tx l) c d same = refl
 same_left image (Cut p) c d same = refl
 
 -- fences put in

@@ -5,6 +5,7 @@ pub mod WithinPool
 pub mod Left
 pub mod Standing
 pub mod Fate
+pub mod LookTurns
 pub mod AsCall
 pub mod CutTurns
 pub mod Faults

@@ -13,14 +13,16 @@ use Rattle.pool_workers.specs.declared.answer.TurnAnswer.{TurnAnswer}
 use Rattle.pool_workers.specs.declared.answer.TurnAnswer.TheVariants as answer
 use Rattle.pool_workers.specs.declared.task.Task.{Task}
 use Rattle.pool_workers.specs.declared.task.Task.TheVariants.{Begun, Running, Ending, Cut}
-use Rattle.pool_workers.specs.Task.{first_machine, task_phase, IsUncut, WentWhole, Turned}
+use Rattle.pool_workers.specs.declared.task.Task.TheVariants.{Looking}
+use Rattle.pool_workers.specs.Task.{first_task, task_phase, IsUncut, WentWhole, Turned}
 use Rattle.workers_law.specs.Fenced.{fenced_cache}
 
 -- the seal of call k in the cache of a compartment, as the transaction knows it
 abbrev pub InPhase : ℤ → Task → Cache → Type 0
 InPhase k (Begun tx args m) c = LacksSeal k (c 5) × (k ≡ number_after (view c DONE))
-InPhase k (Running m a left) c = seal.phase_of (c 5) k ≡ Sealed
-InPhase k (Ending end l) c = seal.phase_of (c 5) k ≡ Sealed
+InPhase k (Running tx m a left) c = seal.phase_of (c 5) k ≡ Sealed
+InPhase k (Ending tx end l) c = seal.phase_of (c 5) k ≡ Sealed
+InPhase k (Looking tx l) c = LacksSeal k (c 5)
 InPhase k (Cut p) c = seal.phase_of (c 5) k ≡ p
 
 -- This holds when the transaction begins on a compartment without that seal; it stays true after
@@ -28,9 +30,9 @@ InPhase k (Cut p) c = seal.phase_of (c 5) k ≡ p
 -- cut. So `phase` answers the phase of the seal's line.
 abbrev pub TurnPhaseLaw : Type 0
 TurnPhaseLaw =
-    ((image : Image) (k : ℤ) (tx : ℕ) (args : List ℤ) (c : Cache) →
+    ((looks : Bool) (image : Image) (k : ℤ) (tx : ℕ) (args : List ℤ) (c : Cache) →
     LacksSeal k (c 5) → k ≡ number_after (view c DONE) →
-    InPhase k (Begun tx args (first_machine image tx args)) c)
+    InPhase k (first_task looks image tx args) c)
     × ((image : Image) (k : ℤ) (a : TurnAnswer) (t u : Task) (d b : Device) →
     IsUncut t → InPhase k t d.cache → WentWhole a image t (Some u) d b → InPhase k u b.cache)
     × ((k : ℤ) (t : Task) (c : Cache) (fenced : Bool) → IsUncut t → InPhase k t c →

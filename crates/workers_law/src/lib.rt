@@ -10,6 +10,7 @@ ghost use Rattle.workers_law.specs.Compartments.{EventLaw, CompartmentLaw, Compa
 ghost use Rattle.workers_law.specs.CutTurns.{CutTurnsLaw, CutPiecesLaw};
 ghost use Rattle.workers_law.specs.Fate.{FateLaw};
 ghost use Rattle.workers_law.specs.Faults.{TurnFaults};
+ghost use Rattle.workers_law.specs.LookTurns.{LookTurnsLaw};
 ghost use Rattle.workers_law.specs.WithinPool.{InsideLaw};
 ghost use Rattle.workers_law.specs.Interleaving.{InterleavingLaw};
 ghost use Rattle.workers_law.specs.Phases.{TurnPhaseLaw};
@@ -26,13 +27,15 @@ pub fn law()
 {}
 
 /// A transaction turn by turn: its pieces are its due list, whatever fences come in between; so the
-/// images of its compartment are those of its own due list. The function does nothing.
+/// images of its compartment are those of its own due list. One that only looks changes nothing.
+/// The function does nothing.
 pub fn turn_law()
     ensures left { LeftLaw }
     ensures view { SameViewLaw }
     ensures turns { TurnsLaw }
     ensures images { ShownImagesLaw }
     ensures fate { FateLaw }
+    ensures looks { LookTurnsLaw }
     ensures called { CalledLaw }
     ensures cut { CutTurnsLaw }
     ensures pieces { CutPiecesLaw }

@@ -115,7 +115,7 @@ pub(crate) fn note_traps(traps: &mut Traps, lines: &[WorkersLine], session: &Wor
             }
             WorkersLine::Own {
                 worker,
-                answer: Answer::RecoveredAborted(kind),
+                answer: Answer::Aborted(kind) | Answer::RecoveredAborted(kind),
             } => traps.undoes(*kind, session.stop(*worker)),
             _ => (),
         }

@@ -40,10 +40,10 @@ module _ (image : Image) (worker tx : ℕ) (args : List ℤ) (d : Device) (k : �
       (λ (ne : j ≢ worker). others j ne)
       (cases_eq j worker))
 
-  ready_as : (a : BeginAnswer) → Begins a image tx args (task_at us worker) →
-      BeginsAs stands.Ready image worker tx args (scene_of w d k) (begin_line a worker ∷ [])
+  ready_as : (looks : Bool) (a : BeginAnswer) → Begins a looks image tx args (task_at us worker) →
+      BeginsAs stands.Ready looks image worker tx args (scene_of w d k) (begin_line a worker ∷ [])
       (scene_of (record { tasks = us; down = begin_runs_out a }) d k)
-  ready_as begins.Started h = inl (record {
+  ready_as looks begins.Started h = inl (record {
     told = refl;
     begun = h;
     others = others;
@@ -52,7 +52,7 @@ module _ (image : Image) (worker tx : ℕ) (args : List ℤ) (d : Device) (k : �
     device = refl;
     steps = refl;
   })
-  ready_as begins.NoMemory h =
+  ready_as looks begins.NoMemory h =
       inr (
         refl,
         λ i. record {
@@ -61,22 +61,26 @@ module _ (image : Image) (worker tx : ℕ) (args : List ℤ) (d : Device) (k : �
           steps = k;
         },
       )
-  ready_as begins.Busy h = absurd h
-  ready_as (begins.Unusable kind) h = absurd h
-  ready_as begins.Numbers h = absurd h
-  ready_as begins.Off h = absurd h
+  ready_as looks begins.Busy h = absurd h
+  ready_as looks (begins.Unusable kind) h = absurd h
+  ready_as looks begins.Numbers h = absurd h
+  ready_as looks begins.Off h = absurd h
 
-  pub begins_as : (s : Standing) (a : BeginAnswer) → marked_line s ≡ None → (s ≡ stands.Off → ⊥) →
-      (s ≡ stands.Numbers → (a ≡ begins.Numbers) × (us ≡ w.tasks)) →
-      (s ≡ stands.Ready → Begins a image tx args (task_at us worker)) →
-      BeginsAs s image worker tx args (scene_of w d k) (begin_line a worker ∷ [])
+  pub begins_as : (looks : Bool) (s : Standing) (a : BeginAnswer) → marked_line s ≡ None
+      → (s ≡ stands.Off → ⊥) →
+      (looks ≡ false → s ≡ stands.Numbers → (a ≡ begins.Numbers) × (us ≡ w.tasks)) →
+      (looks ≡ true → s ≡ stands.Numbers → Begins a looks image tx args (task_at us worker)) →
+      (s ≡ stands.Ready → Begins a looks image tx args (task_at us worker)) →
+      BeginsAs s looks image worker tx args (scene_of w d k) (begin_line a worker ∷ [])
       (scene_of (record { tasks = us; down = begin_runs_out a }) d k)
-  begins_as stands.Ready a unmarked on numbers ready = ready_as a (ready refl)
-  begins_as stands.Numbers a unmarked on numbers ready =
-      let same = numbers refl in (
+  begins_as looks stands.Ready a unmarked on numbers free ready = ready_as looks a (ready refl)
+  begins_as true stands.Numbers a unmarked on numbers free ready =
+      ready_as true a (free refl refl)
+  begins_as false stands.Numbers a unmarked on numbers free ready =
+      let same = numbers refl refl in (
         ap (λ (x : BeginAnswer). begin_line x worker ∷ []) same.0,
         scene_is (scene_of w d k) (scene_of (record { tasks = us; down = begin_runs_out a }) d k)
             same.1 (ap begin_runs_out same.0 ∙ sym up) refl refl,
       )
-  begins_as (stands.Unusable kind) a unmarked on numbers ready = absurd cc
-  begins_as stands.Off a unmarked on numbers ready = absurd (on refl)
+  begins_as looks (stands.Unusable kind) a unmarked on numbers free ready = absurd cc
+  begins_as looks stands.Off a unmarked on numbers free ready = absurd (on refl)

@@ -5,3 +5,4 @@ pub mod Rounds
 pub mod Beginning
 pub mod Crews
 pub mod OneTurn
+pub mod Recovering

@@ -1,13 +1,18 @@
 -- A turn that isn't interrupted lowers the number of turns that are left.
 use Rattle.std.proofs.Common.{◌≡◌, ◌⊎◌, inl, inr, ⊎_elim, ℕ, zero, suc, ◌+◌, ◌-◌, ◌<◌, ◌≤◌, false}
 use Rattle.std.proofs.Common.{[], ◌∷◌, Option, Some, length, refl, ap, subst, ne_eqb, arith}
+use Rattle.std.proofs.Common.{Bool, true, if◌then◌else◌}
 use Rattle.cache_model.specs.Cache.{Cache, view}
 use Rattle.cache_model.specs.Play.{play}
 use Rattle.pmem.specs.Device.{Device}
 use Rattle.pm_machine.specs.declared.image.Image.{Image}
 use Rattle.pm_machine.specs.declared.machine.Machine.{Machine}
 use Rattle.pm_machine.specs.declared.records.Policy.TheVariants.{EndPool}
+use Rattle.pm_machine.specs.declared.effect.End.TheVariants.{Trapped}
+use Rattle.pool_map.specs.declared.trap.TrapKind.TheVariants.{Depth}
 use Rattle.pm_machine.specs.Logging.{Logging, Turn, Plays, Stops, turn_of}
+use Rattle.pm_machine.specs.Looking.{is_look}
+use Rattle.pm_machine.specs.Machine.{StepOutcome, Goes, Ends, step}
 use Rattle.pm_machine.specs.Runs.{heap_in, logging_on}
 use Rattle.clobber_log.specs.Logs.{attempt_in}
 use Rattle.tx_run.specs.Due.{due_seal}
@@ -15,40 +20,75 @@ use Rattle.pool_workers.specs.declared.answer.TurnAnswer.{TurnAnswer}
 use Rattle.pool_workers.specs.declared.answer.TurnAnswer.TheVariants as turned
 use Rattle.pool_workers.specs.declared.task.Task.{Task}
 use Rattle.pool_workers.specs.declared.task.Task.TheVariants.{Begun, Running, Ending, Cut}
+use Rattle.pool_workers.specs.declared.task.Task.TheVariants.{Looking}
+use Rattle.pool_workers.specs.declared.look.Look.{Look}
+use Rattle.pool_workers.specs.declared.look.Look.TheVariants.{Fresh, Going, Seen}
+use Rattle.pool_workers.specs.Look.{going_look, looked, HasLeft}
 use Rattle.pool_workers.specs.Task.{machine_at, going, stepped_task, task_past, Turned, IsTask}
 use Rattle.pool_workers.specs.Task.{IsTaskOr, IsUncut, IsUncutOr}
 use Rattle.pool_workers.specs.Crew.{Tasks, task_at, AreTasks, OtherTasksStay}
 use Rattle.workers_session.specs.WorkersCommands.{is_interrupted}
-use Rattle.workers_session.specs.inside.Turning.{turns_of, turns_left, turns_in, busy_one}
-use Rattle.workers_session.specs.inside.Turning.{busy_first}
+use Rattle.workers_session.specs.inside.Turning.{look_turns, turns_of, turns_left, turns_in}
+use Rattle.workers_session.specs.inside.Turning.{busy_one, busy_first}
 
-going_most : (most : ℕ) (m : Machine) (a k : ℕ) → turns_of most (going m a k) ≤ k + 1
-going_most most m a zero =
-    let same : turns_of most (going m a zero) ≡ 1 = refl in omega arith
-going_most most m a (suc k) =
-    let same : turns_of most (going m a (suc k)) ≡ suc k + 1 =
+going_most : (most tx : ℕ) (m : Machine) (a k : ℕ) → turns_of most (going tx m a k) ≤ k + 1
+going_most most tx m a zero =
+    let same : turns_of most (going tx m a zero) ≡ 1 = refl in omega arith
+going_most most tx m a (suc k) =
+    let same : turns_of most (going tx m a (suc k)) ≡ suc k + 1 =
     rw (ne_eqb (suc k) 0 (λ e. omega arith)) refl in
     omega arith
 
-stepped_most : (most a k : ℕ) (g : Logging) (x : Turn) → 0 < k →
-    turns_of most (stepped_task a k g x) < k + 1
-stepped_most most a k g (Plays es h t) more =
-    let few = going_most most (machine_at t h) a (k - 1) in omega arith
-stepped_most most a k g (Stops end) more = omega arith
+stepped_most : (most tx a k : ℕ) (g : Logging) (x : Turn) → 0 < k →
+    turns_of most (stepped_task tx a k g x) < k + 1
+stepped_most most tx a k g (Plays es h t) more =
+    let few = going_most most tx (machine_at t h) a (k - 1) in omega arith
+stepped_most most tx a k g (Stops end) more = omega arith
+
+look_most : (most : ℕ) (m : Machine) (k : ℕ) → look_turns most (going_look m k) ≤ k + 1
+look_most most m zero =
+    let same : look_turns most (going_look m zero) ≡ 1 = refl in omega arith
+look_most most m (suc k) =
+    let same : look_turns most (going_look m (suc k)) ≡ suc k + 1 =
+    rw (ne_eqb (suc k) 0 (λ e. omega arith)) refl in
+    omega arith
+
+looked_most : (most k : ℕ) (g : Logging) (x : StepOutcome) → 0 < k →
+    look_turns most (looked k g x) < k + 1
+looked_most most k g (Ends end) more = omega arith
+looked_most most k g (Goes e s) more = by_look (is_look e)
+  where
+    by_look : (b : Bool) → look_turns most (if b then
+        going_look (record { processor = s; records = g }) (k - 1) else Seen (Trapped Depth))
+        < k + 1
+    by_look true =
+        let few = look_most most (record { processor = s; records = g }) (k - 1) in omega arith
+    by_look false = omega arith
+
+look_less : (image : Image) (tx : ℕ) (l : Look) (c : Cache) → HasLeft l →
+    turns_left image.parts.most (task_past image (Looking tx l) c) + 1
+    ≤ look_turns image.parts.most l
+look_less image tx (Fresh m) c is =
+    let most = look_most image.parts.most m image.parts.most in omega arith
+look_less image tx (Going m k) c is =
+    let less = looked_most image.parts.most k m.records
+    (step image m.processor (heap_in image.parts.sizes c)) is in omega arith
+look_less image tx (Seen end) c is = omega arith
 
 past_less : (image : Image) (t : Task) (c : Cache) → IsTask image t → IsUncut t →
     turns_left image.parts.most (task_past image t c) + 1 ≤ turns_of image.parts.most t
 past_less image (Begun tx args m) c is uncut =
     let now = play c (due_seal tx args c) in
-    let most = going_most image.parts.most
+    let most = going_most image.parts.most tx
     (machine_at m.processor (logging_on EndPool image.parts.sizes now))
     (attempt_in image.parts.sizes (view now)) image.parts.most in
     omega arith
-past_less image (Running m a k) c is uncut =
-    let less = stepped_most image.parts.most a k m.records
+past_less image (Running tx m a k) c is uncut =
+    let less = stepped_most image.parts.most tx a k m.records
     (turn_of image m.records m.processor (heap_in image.parts.sizes c)) is.2 in
     omega arith
-past_less image (Ending end l) c is uncut = omega arith
+past_less image (Ending tx end l) c is uncut = omega arith
+past_less image (Looking tx l) c is uncut = look_less image tx l c is
 past_less image (Cut p) c is uncut = absurd uncut
 
 turned_less : (a : TurnAnswer) (image : Image) (t : Task) (o : Option Task) (d b : Device) →
@@ -60,6 +100,8 @@ turned_less turned.Went image t o d b is uncut h goes =
 turned_less (turned.Done v l) image t o d b is uncut h goes =
     rw h.1 (past_less image t d.cache is uncut)
 turned_less (turned.Trap k) image t o d b is uncut h goes =
+    rw h.1 (past_less image t d.cache is uncut)
+turned_less (turned.Aborted k) image t o d b is uncut h goes =
     rw h.1 (past_less image t d.cache is uncut)
 turned_less turned.Off image t o d b is uncut h goes = absurd cc
 turned_less turned.Failed image t o d b is uncut h goes = absurd cc

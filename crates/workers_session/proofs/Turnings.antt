@@ -2,14 +2,12 @@
 use Rattle.std.proofs.Common.{◌≡◌, ◌∙◌, ℕ, zero, suc, ◌+◌, ◌-◌, ◌<◌, ◌≤◌, Bool, true, false, List}
 use Rattle.std.proofs.Common.{[], ◌∷◌, ◌++◌, length, drop, slice_index, drop-cons, add-one, refl}
 use Rattle.std.proofs.Common.{sym, ap, append_assoc, append-nil, arith}
-use Rattle.pm_machine.specs.declared.image.Image.{Image}
 use Rattle.recovery.specs.declared.answer.RecoverAnswer.{RecoverAnswer}
 use Rattle.cnvm_session.specs.declared.program.Program.{Program}
-use Rattle.cnvm_session.specs.Outcomes.{answer_of_recovery}
 use Rattle.workers_session.specs.declared.line.WorkersLine.{WorkersLine}
-use Rattle.workers_session.specs.declared.line.WorkersLine.TheVariants.{Own}
 use Rattle.workers_session.specs.WorkersCommands.{Scene, Unchanged, TurnsOnce, TurnList, round_from}
 use Rattle.workers_session.specs.WorkersCommands.{rounds_of, ends_power, RecoversOne, RecoversFrom}
+use Rattle.workers_session.specs.WorkersCommands.{recovered_line}
 
 clash : {A : Type 0} (b : Bool) → b ≡ true → b ≡ false → A
 clash b is not = let e : true ≡ false = sym is ∙ not in absurd cc
@@ -18,11 +16,12 @@ pub no_more : (lines : List WorkersLine) → lines ≡ lines ++ []
 no_more lines = simp append-nil
 
 -- one more turn, and the turns after it
-pub turn_onward : (image : Image) (worker : ℕ) (workers : List ℕ) (x z y : Scene)
+pub turn_onward : (program : Program) (worker : ℕ) (workers : List ℕ) (x z y : Scene)
     (first rest : List WorkersLine) →
-    TurnsOnce image worker x first z → z.workers.down ≡ false → TurnList image workers z rest y →
-    TurnList image (worker ∷ workers) x (first ++ rest) y
-turn_onward image worker workers x z y first rest once up others = (
+    TurnsOnce program worker x first z → z.workers.down ≡ false → TurnList program workers z rest y
+    →
+    TurnList program (worker ∷ workers) x (first ++ rest) y
+turn_onward program worker workers x z y first rest once up others = (
   first,
   rest,
   z,
@@ -32,11 +31,11 @@ turn_onward image worker workers x z y first rest once up others = (
 )
 
 -- one more turn, which is interrupted
-pub turn_over : (image : Image) (worker : ℕ) (workers : List ℕ) (x z : Scene)
+pub turn_over : (program : Program) (worker : ℕ) (workers : List ℕ) (x z : Scene)
     (first : List WorkersLine) →
-    TurnsOnce image worker x first z → z.workers.down ≡ true →
-    TurnList image (worker ∷ workers) x first z
-turn_over image worker workers x z first once down = (
+    TurnsOnce program worker x first z → z.workers.down ≡ true →
+    TurnList program (worker ∷ workers) x first z
+turn_over program worker workers x z first once down = (
   first,
   [],
   z,
@@ -46,55 +45,55 @@ turn_over image worker workers x z first once down = (
 )
 
 -- what is left of the turns leads where all of them lead
-abbrev pub LeadsOn : Image → (left all : List ℕ) → (x z : Scene) → List WorkersLine → Type 0
-LeadsOn image left all x z lines =
-    (rest : List WorkersLine) (y : Scene) → TurnList image left z rest y →
-    TurnList image all x (lines ++ rest) y
+abbrev pub LeadsOn : Program → (left all : List ℕ) → (x z : Scene) → List WorkersLine → Type 0
+LeadsOn program left all x z lines =
+    (rest : List WorkersLine) (y : Scene) → TurnList program left z rest y →
+    TurnList program all x (lines ++ rest) y
 
-pub leads_next : (image : Image) (worker : ℕ) (left all : List ℕ) (x z m : Scene)
+pub leads_next : (program : Program) (worker : ℕ) (left all : List ℕ) (x z m : Scene)
     (lines first : List WorkersLine) →
-    LeadsOn image (worker ∷ left) all x z lines → TurnsOnce image worker z first m →
-    m.workers.down ≡ false → LeadsOn image left all x m (lines ++ first)
-leads_next image worker left all x z m lines first leads once up =
+    LeadsOn program (worker ∷ left) all x z lines → TurnsOnce program worker z first m →
+    m.workers.down ≡ false → LeadsOn program left all x m (lines ++ first)
+leads_next program worker left all x z m lines first leads once up =
     λ rest y turns.
     rw (append_assoc lines first rest)
-    (leads (first ++ rest) y (turn_onward image worker left z m y first rest once up turns))
+    (leads (first ++ rest) y (turn_onward program worker left z m y first rest once up turns))
 
-pub leads_over : (image : Image) (worker : ℕ) (left all : List ℕ) (x z m : Scene)
+pub leads_over : (program : Program) (worker : ℕ) (left all : List ℕ) (x z m : Scene)
     (lines first : List WorkersLine) →
-    LeadsOn image (worker ∷ left) all x z lines → TurnsOnce image worker z first m →
-    m.workers.down ≡ true → TurnList image all x (lines ++ first) m
-leads_over image worker left all x z m lines first leads once down =
-    leads first m (turn_over image worker left z m first once down)
+    LeadsOn program (worker ∷ left) all x z lines → TurnsOnce program worker z first m →
+    m.workers.down ≡ true → TurnList program all x (lines ++ first) m
+leads_over program worker left all x z m lines first leads once down =
+    leads first m (turn_over program worker left z m first once down)
 
-pub leads_end : (image : Image) (all : List ℕ) (x z : Scene) (lines : List WorkersLine) →
-    LeadsOn image [] all x z lines → TurnList image all x (lines ++ []) z
-leads_end image all x z lines leads = leads [] z (refl, refl)
+pub leads_end : (program : Program) (all : List ℕ) (x z : Scene) (lines : List WorkersLine) →
+    LeadsOn program [] all x z lines → TurnList program all x (lines ++ []) z
+leads_end program all x z lines leads = leads [] z (refl, refl)
 
-append_step : (image : Image) (w : ℕ) (ws vs : List ℕ) (x m z y : Scene)
+append_step : (program : Program) (w : ℕ) (ws vs : List ℕ) (x m z y : Scene)
     (first rest ls ms : List WorkersLine) (down : Bool) → m.workers.down ≡ down →
-    TurnsOnce image w x first m → ls ≡ first ++ rest →
+    TurnsOnce program w x first m → ls ≡ first ++ rest →
     (m.workers.down ≡ true → Unchanged [] m rest z) →
-    (m.workers.down ≡ false → TurnList image (ws ++ vs) m (rest ++ ms) y) →
+    (m.workers.down ≡ false → TurnList program (ws ++ vs) m (rest ++ ms) y) →
     z.workers.down ≡ false →
-    TurnList image (w ∷ (ws ++ vs)) x (ls ++ ms) y
-append_step image w ws vs x m z y first rest ls ms true is once lines over goes up =
+    TurnList program (w ∷ (ws ++ vs)) x (ls ++ ms) y
+append_step program w ws vs x m z y first rest ls ms true is once lines over goes up =
     let same : z ≡ m = (over is).1 in
     clash z.workers.down (ap (λ (s : Scene). s.workers.down) same ∙ is) up
-append_step image w ws vs x m z y first rest ls ms false is once lines over goes up =
+append_step program w ws vs x m z y first rest ls ms false is once lines over goes up =
     rw (lines, append_assoc first rest ms)
-    (turn_onward image w (ws ++ vs) x m y first (rest ++ ms) once is (goes is))
+    (turn_onward program w (ws ++ vs) x m y first (rest ++ ms) once is (goes is))
 
 -- turns of a list, and then those of another
-pub turns_append : (image : Image) (ws vs : List ℕ) (x z y : Scene) (ls ms : List WorkersLine) →
-    TurnList image ws x ls z → z.workers.down ≡ false → TurnList image vs z ms y →
-    TurnList image (ws ++ vs) x (ls ++ ms) y
-turns_append image [] vs x z y ls ms first up others =
+pub turns_append : (program : Program) (ws vs : List ℕ) (x z y : Scene) (ls ms : List WorkersLine) →
+    TurnList program ws x ls z → z.workers.down ≡ false → TurnList program vs z ms y →
+    TurnList program (ws ++ vs) x (ls ++ ms) y
+turns_append program [] vs x z y ls ms first up others =
     rw (first.0, ← first.1) others
-turns_append image (w ∷ ws) vs x z y ls ms first up others =
-    append_step image w ws vs x first.2 z y first.0 first.1 ls ms first.2.workers.down refl
+turns_append program (w ∷ ws) vs x z y ls ms first up others =
+    append_step program w ws vs x first.2 z y first.0 first.1 ls ms first.2.workers.down refl
     first.3 first.4 first.5.0
-    (λ is. turns_append image ws vs first.2 z y first.1 ms (first.5.1 is) up others) up
+    (λ is. turns_append program ws vs first.2 z y first.1 ms (first.5.1 is) up others) up
 
 pub worker_at : (ws : List ℕ) (i : ℕ) → i < length ws →
     drop i ws ≡ slice_index ws i ∷ drop (i + 1) ws
@@ -122,13 +121,13 @@ pub back_next : (program : Program) (i n all : ℕ) (x z m : Scene) (lines : Lis
     (a : RecoverAnswer) → i < all →
     LeadsBack program i (all - i) all x z lines → RecoversOne program i a z m →
     ends_power a ≡ false →
-    LeadsBack program (i + 1) (all - (i + 1)) all x m (lines ++ Own i (answer_of_recovery a) ∷ [])
+    LeadsBack program (i + 1) (all - (i + 1)) all x m (lines ++ recovered_line program i a z ∷ [])
 back_next program i n all x z m lines a less leads one goes =
     λ rest y recovers.
     let e : all - i ≡ suc (all - (i + 1)) = omega arith in
     let next : i + 1 ≡ suc i = omega arith in
-    rw (append_assoc lines (Own i (answer_of_recovery a) ∷ []) rest)
-    (leads (Own i (answer_of_recovery a) ∷ rest) y
+    rw (append_assoc lines (recovered_line program i a z ∷ []) rest)
+    (leads (recovered_line program i a z ∷ rest) y
     (rw e (
       a,
       rest,
@@ -142,10 +141,10 @@ pub back_over : (program : Program) (i n all : ℕ) (x z m : Scene) (lines : Lis
     (a : RecoverAnswer) → i < all →
     LeadsBack program i (all - i) all x z lines → RecoversOne program i a z m →
     ends_power a ≡ true →
-    RecoversFrom program 0 all x (lines ++ Own i (answer_of_recovery a) ∷ []) m
+    RecoversFrom program 0 all x (lines ++ recovered_line program i a z ∷ []) m
 back_over program i n all x z m lines a less leads one ends =
     let e : all - i ≡ suc (all - (i + 1)) = omega arith in
-    leads (Own i (answer_of_recovery a) ∷ []) m
+    leads (recovered_line program i a z ∷ []) m
     (rw e (a, [], m, one, refl, (λ is. (refl, refl), λ goes. clash (ends_power a) ends goes)))
 
 pub back_end : (program : Program) (i n all : ℕ) (x z : Scene) (lines : List WorkersLine) →

@@ -2,6 +2,7 @@
 -- and the count of steps, which rises from k to k1.
 use Rattle.std.specs.Prelude.{ℕ, zero, suc, ◌+◌, ◌≡◌, ◌==◌, ◌⊎◌, Bool, true, false, List, [], ◌∷◌}
 use Rattle.std.specs.Prelude.{◌++◌, Option, Some, None, length, if◌then◌else◌, ℤ}
+use Rattle.std.specs.Option.{option_map_or}
 use Rattle.cache_model.specs.Cache.{view}
 use Rattle.cache_model.specs.Collapse.{bad}
 use Rattle.cache_model.specs.declared.choice.Choice.{Choice}
@@ -16,14 +17,14 @@ use Rattle.recovery.specs.Recovered.{IsRecovered}
 use Rattle.pool_workers.specs.declared.answer.TurnAnswer.{TurnAnswer}
 use Rattle.pool_workers.specs.declared.answer.TurnAnswer.TheVariants as turned
 use Rattle.pool_workers.specs.declared.task.Task.{Task}
-use Rattle.pool_workers.specs.declared.task.Task.TheVariants.{Begun}
-use Rattle.pool_workers.specs.Task.{first_machine, task_phase, ticks_of}
+use Rattle.pool_workers.specs.Task.{first_task, task_phase, task_tx, ticks_of}
 use Rattle.pool_workers.specs.Crew.{Tasks, task_at, OtherTasksStay, compartment, StaysAside}
 use Rattle.pool_workers.specs.Crew.{standing_at, TurnOf}
 use Rattle.cnvm_session.specs.declared.answer.Answer.TheVariants as answer
 use Rattle.cnvm_session.specs.declared.program.Program.{Program}
 use Rattle.cnvm_session.specs.Commands.{call_number, tx_parameters, fallen}
-use Rattle.cnvm_session.specs.Marks.{rolls_back_of, policy_of, owes_marked}
+use Rattle.cnvm_session.specs.Marks.{rolls_back_of, looks_of, policy_of, owes_marked}
+use Rattle.cnvm_session.specs.Marks.{unsigned_of, owes_unsigned}
 use Rattle.cnvm_session.specs.Outcomes.{answer_of_recovery}
 use Rattle.workers_script.specs.declared.command.WorkersCommand.{WorkersCommand}
 use Rattle.workers_script.specs.declared.command.WorkersCommand.TheVariants as command
@@ -61,44 +62,49 @@ RunsOut x lines y =
     })
 
 -- The worker is at the start of its transaction, and nothing else changes.
-pub record HasBegun (image : Image) (worker tx : ℕ) (args : List ℤ) (x : Scene)
+pub record HasBegun (looks : Bool) (image : Image) (worker tx : ℕ) (args : List ℤ) (x : Scene)
     (lines : List WorkersLine) (y : Scene) : Type 0 where
   pub told : lines ≡ Started worker ∷ []
-  pub begun : task_at y.workers.tasks worker ≡ Some (Begun tx args (first_machine image tx args))
+  pub begun : task_at y.workers.tasks worker ≡ Some (first_task looks image tx args)
   pub others : OtherTasksStay worker x.workers.tasks y.workers.tasks
   pub count : length y.workers.tasks ≡ length x.workers.tasks
   pub up : y.workers.down ≡ false
   pub device : y.device ≡ x.device
   pub steps : y.steps ≡ x.steps
 
--- a transaction that the program has is begun with as many arguments as it has parameters
-abbrev pub BeginsAs : Standing → Image → (worker tx : ℕ) → List ℤ → Scene → List WorkersLine
-    → Scene → Type 0
-BeginsAs stands.Ready image worker tx args x lines y =
-    HasBegun image worker tx args x lines y ⊎ RunsOut x lines y
-BeginsAs stands.Numbers image worker tx args x lines y =
+-- A transaction that the program has is begun with as many arguments as it has parameters. One that
+-- only looks takes no number.
+abbrev pub BeginsAs : Standing → (looks : Bool) → Image → (worker tx : ℕ) → List ℤ → Scene
+    → List WorkersLine → Scene → Type 0
+BeginsAs stands.Ready looks image worker tx args x lines y =
+    HasBegun looks image worker tx args x lines y ⊎ RunsOut x lines y
+BeginsAs stands.Numbers true image worker tx args x lines y =
+    HasBegun true image worker tx args x lines y ⊎ RunsOut x lines y
+BeginsAs stands.Numbers false image worker tx args x lines y =
     RefusedWith (Plain answer.RefusedNumbers) x lines y
-BeginsAs (stands.Unusable kind) image worker tx args x lines y = ⊥
-BeginsAs stands.Off image worker tx args x lines y = ⊥
+BeginsAs (stands.Unusable kind) looks image worker tx args x lines y = ⊥
+BeginsAs stands.Off looks image worker tx args x lines y = ⊥
 
-abbrev pub BeginsWith : Bool → Image → (worker tx : ℕ) → List ℤ → Scene → List WorkersLine
-    → Scene → Type 0
-BeginsWith true image worker tx args x lines y =
-    BeginsAs (standing_at image worker x.device) image worker tx args x lines y
-BeginsWith false image worker tx args x lines y = RefusedWith (Plain answer.RefusedArity) x lines y
+abbrev pub BeginsWith : Bool → (looks : Bool) → Image → (worker tx : ℕ) → List ℤ → Scene
+    → List WorkersLine → Scene → Type 0
+BeginsWith true looks image worker tx args x lines y =
+    BeginsAs (standing_at image worker x.device) looks image worker tx args x lines y
+BeginsWith false looks image worker tx args x lines y =
+    RefusedWith (Plain answer.RefusedArity) x lines y
 
 -- no worker begins a transaction that is marked as one that rolls back
-abbrev pub BeginsBy : (marked : Bool) → (count : ℕ) → Image → (worker tx : ℕ) → List ℤ → Scene
-    → List WorkersLine → Scene → Type 0
-BeginsBy true count image worker tx args x lines y = RefusedWith RefusedAbort x lines y
-BeginsBy false count image worker tx args x lines y =
-    BeginsWith (count == length args) image worker tx args x lines y
+abbrev pub BeginsBy : (marked looks : Bool) → (count : ℕ) → Image → (worker tx : ℕ) → List ℤ
+    → Scene → List WorkersLine → Scene → Type 0
+BeginsBy true looks count image worker tx args x lines y = RefusedWith RefusedAbort x lines y
+BeginsBy false looks count image worker tx args x lines y =
+    BeginsWith (count == length args) looks image worker tx args x lines y
 
 abbrev pub BeginsTo : Option ℕ → Program → (worker tx : ℕ) → List ℤ → Scene → List WorkersLine
     → Scene → Type 0
 BeginsTo None program worker tx args x lines y = RefusedWith (Plain answer.RefusedUnknown) x lines y
 BeginsTo (Some count) program worker tx args x lines y =
-    BeginsBy (rolls_back_of program tx) count program.image worker tx args x lines y
+    BeginsBy (rolls_back_of program tx) (looks_of program tx) count program.image worker tx args x
+    lines y
 
 abbrev pub BeginsNamed : Option ℕ → Program → (worker : ℕ) → List ℤ → Scene → List WorkersLine
     → Scene → Type 0
@@ -145,15 +151,21 @@ abbrev pub stopped_lines : (worker : ℕ) → Tasks → List WorkersLine
 stopped_lines worker [] = []
 stopped_lines worker (o ∷ os) = stopped_line worker o ++ stopped_lines (suc worker) os
 
--- the lines of a turn, where these are the transactions after it
-abbrev pub turn_lines : TurnAnswer → (worker : ℕ) → Tasks → List WorkersLine
-turn_lines turned.Idle worker ts = []
-turn_lines turned.Went worker ts = []
-turn_lines (turned.Done value logged) worker ts = Own worker (answer.Done value logged) ∷ []
-turn_lines (turned.Trap kind) worker ts = Own worker (answer.Trap kind) ∷ []
-turn_lines turned.Off worker ts = stopped_lines 0 ts
-turn_lines turned.Failed worker ts = Plain answer.DeviceFault ∷ []
-turn_lines turned.NoMemory worker ts = Plain answer.NoMemory ∷ []
+-- whether a worker's unfinished transaction returns `uint64_t`
+abbrev pub task_unsigned : Program → Option Task → Bool
+task_unsigned program o = unsigned_of program (option_map_or task_tx o 0)
+
+-- the lines of a turn, by whether its transaction returns `uint64_t`, where these are the
+-- transactions after it
+abbrev pub turn_lines : (unsigned : Bool) → TurnAnswer → (worker : ℕ) → Tasks → List WorkersLine
+turn_lines u turned.Idle worker ts = []
+turn_lines u turned.Went worker ts = []
+turn_lines u (turned.Done value logged) worker ts = Own worker (answer.Done value u logged) ∷ []
+turn_lines u (turned.Trap kind) worker ts = Own worker (answer.Trap kind) ∷ []
+turn_lines u (turned.Aborted kind) worker ts = Own worker (answer.Aborted kind) ∷ []
+turn_lines u turned.Off worker ts = stopped_lines 0 ts
+turn_lines u turned.Failed worker ts = Plain answer.DeviceFault ∷ []
+turn_lines u turned.NoMemory worker ts = Plain answer.NoMemory ∷ []
 
 -- whether a turn was interrupted; then all workers are down
 abbrev pub is_interrupted : TurnAnswer → Bool
@@ -161,6 +173,7 @@ is_interrupted turned.Idle = false
 is_interrupted turned.Went = false
 is_interrupted (turned.Done value logged) = false
 is_interrupted (turned.Trap kind) = false
+is_interrupted (turned.Aborted kind) = false
 is_interrupted turned.Off = true
 is_interrupted turned.Failed = true
 is_interrupted turned.NoMemory = true
@@ -173,28 +186,29 @@ TurnFor (Some t) image worker a x y =
     × (length y.workers.tasks ≡ length x.workers.tasks)
     × (y.steps ≡ x.steps + ticks_of t) × (y.workers.down ≡ is_interrupted a)
 
-abbrev pub TurnsOnce : Image → (worker : ℕ) → Scene → List WorkersLine → Scene → Type 0
-TurnsOnce image worker x lines y =
-    (a : TurnAnswer) × TurnFor (task_at x.workers.tasks worker) image worker a x y
-    × (lines ≡ turn_lines a worker y.workers.tasks)
+abbrev pub TurnsOnce : Program → (worker : ℕ) → Scene → List WorkersLine → Scene → Type 0
+TurnsOnce program worker x lines y =
+    (a : TurnAnswer) × TurnFor (task_at x.workers.tasks worker) program.image worker a x y
+    × (lines ≡ turn_lines (task_unsigned program (task_at x.workers.tasks worker)) a worker
+    y.workers.tasks)
 
 -- turns of these workers, in this order, up to one that is interrupted
-abbrev pub TurnList : Image → List ℕ → Scene → List WorkersLine → Scene → Type 0
-TurnList image [] x lines y = Unchanged [] x lines y
-TurnList image (worker ∷ workers) x lines y =
+abbrev pub TurnList : Program → List ℕ → Scene → List WorkersLine → Scene → Type 0
+TurnList program [] x lines y = Unchanged [] x lines y
+TurnList program (worker ∷ workers) x lines y =
     (first : List WorkersLine) × (rest : List WorkersLine) × (z : Scene)
-    × TurnsOnce image worker x first z × (lines ≡ first ++ rest)
+    × TurnsOnce program worker x first z × (lines ≡ first ++ rest)
     × ((z.workers.down ≡ true → Unchanged [] z rest y)
-    × (z.workers.down ≡ false → TurnList image workers z rest y))
+    × (z.workers.down ≡ false → TurnList program workers z rest y))
 
-abbrev pub TurnsKnown : Option ℕ → Image → List ℕ → Scene → List WorkersLine → Scene → Type 0
-TurnsKnown (Some worker) image workers x lines y = RefusedWith (RefusedWorker worker) x lines y
-TurnsKnown None image workers x lines y = TurnList image workers x lines y
+abbrev pub TurnsKnown : Option ℕ → Program → List ℕ → Scene → List WorkersLine → Scene → Type 0
+TurnsKnown (Some worker) program workers x lines y = RefusedWith (RefusedWorker worker) x lines y
+TurnsKnown None program workers x lines y = TurnList program workers x lines y
 
-abbrev pub TurnsGiven : Bool → Image → List ℕ → Scene → List WorkersLine → Scene → Type 0
-TurnsGiven true image workers x lines y = RefusedWith (Plain answer.RefusedDown) x lines y
-TurnsGiven false image workers x lines y =
-    TurnsKnown (stranger_in (length x.workers.tasks) workers) image workers x lines y
+abbrev pub TurnsGiven : Bool → Program → List ℕ → Scene → List WorkersLine → Scene → Type 0
+TurnsGiven true program workers x lines y = RefusedWith (Plain answer.RefusedDown) x lines y
+TurnsGiven false program workers x lines y =
+    TurnsKnown (stranger_in (length x.workers.tasks) workers) program workers x lines y
 
 -- the numbers of n workers from this one on; and those of all workers, once for each round
 abbrev pub round_from : (worker n : ℕ) → List ℕ
@@ -210,10 +224,10 @@ abbrev pub AreIdle : Tasks → Type 0
 AreIdle ts = (worker : ℕ) → task_at ts worker ≡ None
 
 -- turns in rounds, until each worker is idle or a turn is interrupted
-abbrev pub FinishesAll : Bool → Image → Scene → List WorkersLine → Scene → Type 0
-FinishesAll true image x lines y = RefusedWith (Plain answer.RefusedDown) x lines y
-FinishesAll false image x lines y =
-    (rounds : ℕ) × TurnList image (rounds_of rounds (length x.workers.tasks)) x lines y
+abbrev pub FinishesAll : Bool → Program → Scene → List WorkersLine → Scene → Type 0
+FinishesAll true program x lines y = RefusedWith (Plain answer.RefusedDown) x lines y
+FinishesAll false program x lines y =
+    (rounds : ℕ) × TurnList program (rounds_of rounds (length x.workers.tasks)) x lines y
     × (y.workers.down ≡ false → AreIdle y.workers.tasks)
 
 -- whether no compartment after this one is recovered, and whether the workers stay down
@@ -256,13 +270,18 @@ pub record RecoversOne (program : Program) (worker : ℕ) (a : RecoverAnswer) (x
   pub aside : StaysAside program.image worker x.device y.device
   pub down : y.workers.down ≡ (if keeps_down a then true else x.workers.down)
 
+-- its line, by whether the transaction that the compartment owed returns `uint64_t`
+abbrev pub recovered_line : Program → (worker : ℕ) → RecoverAnswer → Scene → WorkersLine
+recovered_line program worker a x =
+    Own worker (answer_of_recovery (owes_unsigned program (compartment_of program worker x)) a)
+
 -- The recoveries of n compartments, from this one on, up to one that is interrupted. Each has a
 -- line.
 abbrev pub RecoversFrom : Program → (worker n : ℕ) → Scene → List WorkersLine → Scene → Type 0
 RecoversFrom program worker zero x lines y = Unchanged [] x lines y
 RecoversFrom program worker (suc n) x lines y =
     (a : RecoverAnswer) × (rest : List WorkersLine) × (z : Scene)
-    × RecoversOne program worker a x z × (lines ≡ Own worker (answer_of_recovery a) ∷ rest)
+    × RecoversOne program worker a x z × (lines ≡ recovered_line program worker a x ∷ rest)
     × ((ends_power a ≡ true → Unchanged [] z rest y)
     × (ends_power a ≡ false → RecoversFrom program (suc worker) n z rest y))
 
@@ -297,9 +316,9 @@ abbrev pub WorkersCommanded : Program → WorkersCommand → Scene → List Work
 WorkersCommanded program (command.Start worker name args) x lines y =
     Starts (refusal_at program.image x.workers worker x.device) program worker name args x lines y
 WorkersCommanded program (command.Turn workers) x lines y =
-    TurnsGiven x.workers.down program.image workers x lines y
+    TurnsGiven x.workers.down program workers x lines y
 WorkersCommanded program command.Finish x lines y =
-    FinishesAll x.workers.down program.image x lines y
+    FinishesAll x.workers.down program x lines y
 WorkersCommanded program (command.Stop left) x lines y =
     (lines ≡ []) × (y ≡ with_device (with_left left x.device) x)
 WorkersCommanded program (command.Fault at) x lines y =

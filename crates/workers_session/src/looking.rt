@@ -7,10 +7,10 @@ ghost use Rattle.pool_layout.specs.Sizes.{pool_lines};
 ghost use Rattle.pool_layout.specs.declared.places.TheConstants as place;
 ghost use Rattle.pool_workers.specs.Compartment.{first_line};
 ghost use Rattle.pool_workers.specs.Crew.{compartment, HasCompartment, standing_at};
-ghost use Rattle.cnvm_session.specs.Marks.{owes_marked};
+ghost use Rattle.cnvm_session.specs.Marks.{owes_marked, owes_unsigned};
 ghost use Rattle.workers_session.specs.Looks.{IsPoolText};
 
-use cnvm_session::{Program, owes_marked, pool_text};
+use cnvm_session::{Program, owes_marked, owes_unsigned, pool_text};
 use nvm_base::Text;
 use pm_machine::Image;
 use pmem::{Pmem, PmemWork};
@@ -40,26 +40,30 @@ pub(crate) fn standing_of<P: Pmem + Drop, O: Origin>(
     standing
 }
 
-/// Whether the worker's compartment owes a transaction that is marked.
-pub(crate) fn owes_marked_in<P: Pmem + Drop, O: Origin>(
+/// Whether the worker's compartment owes a transaction that is marked, and one that returns
+/// `uint64_t`.
+pub(crate) fn owed_in<P: Pmem + Drop, O: Origin>(
     program: &Program,
     worker: u32,
     dev: &mut P,
-) -> bool
+) -> (bool, bool)
     requires worker { worker < 8 }
     requires first { O.first ≡ first_line program.now.image.parts.sizes worker }
     requires lines { O.lines ≡ pool_lines program.now.image.parts.sizes }
     requires whole { O.whole ≡ P.device dev.old }
     requires inside { HasCompartment program.now.image worker (P.device dev.old) }
     requires on { (P.device dev.old).on ≡ true }
-    ensures value { result ≡ owes_marked program.now
+    ensures marked { result.0 ≡ owes_marked program.now
+        (compartment program.now.image worker (P.device dev.old)) }
+    ensures unsigned { result.1 ≡ owes_unsigned program.now
         (compartment program.now.image worker (P.device dev.old)) }
     ensures same { P.device dev.new ≡ P.device dev.old }
 {
     let window: Window<P, O> = Window::new(dev.take(), program.image.sizes(), worker);
-    let owes = owes_marked(program, &window);
+    let marked = owes_marked(program, &window);
+    let unsigned = owes_unsigned(program, &window);
     *dev = window.into_device();
-    owes
+    (marked, unsigned)
 }
 
 /// The text of the pool in the worker's compartment.

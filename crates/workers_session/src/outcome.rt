@@ -44,8 +44,11 @@ pub(crate) fn is_interrupted(answer: TurnAnswer) -> bool
 {
     match answer {
         TurnAnswer::Off | TurnAnswer::Failed | TurnAnswer::NoMemory => true,
-        TurnAnswer::Idle | TurnAnswer::Went | TurnAnswer::Done { .. } | TurnAnswer::Trap(_) =>
-            false,
+        TurnAnswer::Idle
+        | TurnAnswer::Went
+        | TurnAnswer::Done { .. }
+        | TurnAnswer::Trap(_)
+        | TurnAnswer::Aborted(_) => false,
     }
 }
 

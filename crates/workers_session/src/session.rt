@@ -10,8 +10,6 @@ ghost use Rattle.pool_workers.specs.Crew.{task_at, AreTasks, OtherTasksStay, Has
 ghost use Rattle.pool_workers.specs.Crew.{standing_at};
 ghost use Rattle.pool_workers.specs.Making.{creations, Unmade};
 ghost use Rattle.recovery.specs.declared.answer.RecoverAnswer.{RecoverAnswer};
-ghost use Rattle.cnvm_session.specs.Outcomes.{answer_of_recovery as recovery_answer};
-ghost use Rattle.workers_session.specs.declared.line.WorkersLine.TheVariants.{Own};
 ghost use Rattle.workers_session.specs.Told.{GivesLines};
 ghost use Rattle.workers_session.specs.declared.line.WorkersLine.{WorkersLine as Line};
 ghost use Rattle.workers_session.specs.WorkersState.{IsReadyFor, unready, marked_line, refusal_at};
@@ -20,6 +18,7 @@ ghost use Rattle.workers_session.specs.WorkersCommands.{scene_of, BeginsAs, Star
 ghost use Rattle.workers_session.specs.WorkersCommands.{LastsWorker, TurnsOnce, TurnList};
 ghost use Rattle.workers_session.specs.WorkersCommands.{TurnsGiven, FinishesAll, AreIdle};
 ghost use Rattle.workers_session.specs.WorkersCommands.{ends_power, RecoversOne, RecoversFrom};
+ghost use Rattle.workers_session.specs.WorkersCommands.{recovered_line};
 ghost use Rattle.workers_session.specs.WorkersCommands.{Resumes, PowersAll, WorkersCommanded};
 ghost use Rattle.workers_session.specs.WorkersCommands.{stopped_line};
 ghost use Rattle.workers_session.specs.WorkersCommands.{stopped_lines, turn_lines, round_from};
@@ -27,11 +26,12 @@ ghost use Rattle.workers_session.specs.WorkersCommands.{rounds_of};
 ghost use Rattle.workers_session.specs.inside.Turning.{Extends, turns_in, busy_one, busy_first};
 
 use crate::line::{WorkersLine, WorkersLines, add, no_line, one};
-use crate::looking::{last_of, owes_marked_in, standing_of, text_of};
+use crate::looking::{last_of, owed_in, standing_of, text_of};
 use crate::outcome::{begin_line, begin_runs_out, ends_power, is_interrupted, keeps_down};
 use cache_model::Choice;
 use cnvm_session::{
-    Answer, Program, answer_of_recovery, first_fallen, parameters, policy_of, rolls_back,
+    Answer, Program, answer_of_recovery, first_fallen, is_unsigned, looks, parameters, policy_of,
+    rolls_back,
 };
 use nvm_base::Steps;
 use pm_machine::{Image, Stop};
@@ -154,9 +154,9 @@ impl WorkersSession {
                 )
             }
             WorkersCommand::Turn(workers) => {
-                self.turns(alloc, &program.image, workers.as_slice(), dev, steps)
+                self.turns(alloc, program, workers.as_slice(), dev, steps)
             }
-            WorkersCommand::Finish => self.finish(alloc, &program.image, dev, steps),
+            WorkersCommand::Finish => self.finish(alloc, program, dev, steps),
             WorkersCommand::Stop(k) => {
                 dev.arm(*k);
                 no_line(alloc)
@@ -247,16 +247,17 @@ impl WorkersSession {
         if count != args.len() as u64 {
             return WorkersLine::Plain(Answer::RefusedArity);
         }
-        self.begin(&program.image, worker, tx, args, dev)
+        self.begin(&program.image, worker, tx, args, looks(program, tx), dev)
     }
 
-    /// Begins a transaction of a worker that takes one.
+    /// Begins a transaction of a worker that takes one, by whether it only looks.
     fn begin<P: Pmem>(
         &mut self,
         image: &Image,
         worker: u32,
         tx: u64,
         args: &[i64],
+        looks: bool,
         dev: &P,
     ) -> WorkersLine
         requires sound { IsReadyFor image.now self.old (P.device dev.now) }
@@ -267,11 +268,11 @@ impl WorkersSession {
         requires first { 1 ≤ tx }
         requires last { tx ≤ length image.now.parts.txs }
         ensures begins { (k : ℕ) → BeginsAs (standing_at image.now worker (P.device dev.now))
-            image.now worker tx args.now (scene_of self.old (P.device dev.now) k) (result ∷ [])
-            (scene_of self.new (P.device dev.now) k) }
+            looks image.now worker tx args.now (scene_of self.old (P.device dev.now) k)
+            (result ∷ []) (scene_of self.new (P.device dev.now) k) }
         ensures sound { IsReadyFor image.now self.new (P.device dev.now) }
     {
-        let answer = self.workers.begin(image, worker, tx, args, dev);
+        let answer = self.workers.begin(image, worker, tx, args, looks, dev);
         self.down = begin_runs_out(answer);
         begin_line(answer, worker)
     }
@@ -293,17 +294,17 @@ impl WorkersSession {
     fn turns<P: Pmem + Drop, L: Ledger>(
         &mut self,
         alloc: Global,
-        image: &Image,
+        program: &Program,
         workers: &[u32],
         dev: &mut P,
         steps: &mut Steps<L>,
     ) -> Option<WorkersLines>
-        requires sound { IsReadyFor image.now self.old (P.device dev.old) }
+        requires sound { IsReadyFor program.now.image self.old (P.device dev.old) }
         ensures does { (lines : List Line) × GivesLines result lines
-            × TurnsGiven self.old.down image.now workers.now
+            × TurnsGiven self.old.down program.now workers.now
             (scene_of self.old (P.device dev.old) steps.old) lines
             (scene_of self.new (P.device dev.new) steps.new) }
-        ensures sound { IsReadyFor image.now self.new (P.device dev.new) }
+        ensures sound { IsReadyFor program.now.image self.new (P.device dev.new) }
     {
         if self.down {
             return one(alloc, WorkersLine::Plain(Answer::RefusedDown));
@@ -311,29 +312,30 @@ impl WorkersSession {
         if let Some(worker) = self.stranger(workers) {
             return one(alloc, WorkersLine::RefusedWorker(worker));
         }
-        self.turn_list(image, workers, no_line(alloc), dev, steps)
+        self.turn_list(program, workers, no_line(alloc), dev, steps)
     }
 
     /// A turn of each of these workers, up to one that is interrupted.
     fn turn_list<P: Pmem + Drop, L: Ledger>(
         &mut self,
-        image: &Image,
+        program: &Program,
         workers: &[u32],
         told: Option<WorkersLines>,
         dev: &mut P,
         steps: &mut Steps<L>,
     ) -> Option<WorkersLines>
-        requires sound { IsReadyFor image.now self.old (P.device dev.old) }
+        requires sound { IsReadyFor program.now.image self.old (P.device dev.old) }
         requires up { self.old.down ≡ false }
         requires known { stranger_in (length self.old.tasks) workers.now ≡ None }
         ensures does { (lines : List Line) × Extends told result lines
-            × TurnList image.now workers.now (scene_of self.old (P.device dev.old) steps.old) lines
+            × TurnList program.now workers.now
+            (scene_of self.old (P.device dev.old) steps.old) lines
             (scene_of self.new (P.device dev.new) steps.new) }
-        ensures sound { IsReadyFor image.now self.new (P.device dev.new) }
+        ensures sound { IsReadyFor program.now.image self.new (P.device dev.new) }
     {
         let mut told = told;
         for worker in workers {
-            told = self.turn(image, *worker, told, dev, steps);
+            told = self.turn(program, *worker, told, dev, steps);
             if self.down {
                 return told;
             }
@@ -345,40 +347,40 @@ impl WorkersSession {
     fn finish<P: Pmem + Drop, L: Ledger>(
         &mut self,
         alloc: Global,
-        image: &Image,
+        program: &Program,
         dev: &mut P,
         steps: &mut Steps<L>,
     ) -> Option<WorkersLines>
-        requires sound { IsReadyFor image.now self.old (P.device dev.old) }
+        requires sound { IsReadyFor program.now.image self.old (P.device dev.old) }
         ensures does { (lines : List Line) × GivesLines result lines
-            × FinishesAll self.old.down image.now (scene_of self.old (P.device dev.old) steps.old)
+            × FinishesAll self.old.down program.now (scene_of self.old (P.device dev.old) steps.old)
             lines (scene_of self.new (P.device dev.new) steps.new) }
-        ensures sound { IsReadyFor image.now self.new (P.device dev.new) }
+        ensures sound { IsReadyFor program.now.image self.new (P.device dev.new) }
     {
         if self.down {
             return one(alloc, WorkersLine::Plain(Answer::RefusedDown));
         }
-        self.rounds(image, no_line(alloc), dev, steps)
+        self.rounds(program, no_line(alloc), dev, steps)
     }
 
     /// Turns in rounds, until each worker is idle or a turn is interrupted.
     fn rounds<P: Pmem + Drop, L: Ledger>(
         &mut self,
-        image: &Image,
+        program: &Program,
         told: Option<WorkersLines>,
         dev: &mut P,
         steps: &mut Steps<L>,
     ) -> Option<WorkersLines>
-        requires sound { IsReadyFor image.now self.old (P.device dev.old) }
+        requires sound { IsReadyFor program.now.image self.old (P.device dev.old) }
         requires up { self.old.down ≡ false }
         ensures does { (lines : List Line) × Extends told result lines
-            × FinishesAll false image.now (scene_of self.old (P.device dev.old) steps.old)
+            × FinishesAll false program.now (scene_of self.old (P.device dev.old) steps.old)
             lines (scene_of self.new (P.device dev.new) steps.new) }
-        ensures sound { IsReadyFor image.now self.new (P.device dev.new) }
+        ensures sound { IsReadyFor program.now.image self.new (P.device dev.new) }
     {
         let mut told = told;
         'rounds: while !self.is_over() {
-            told = self.round(image, told, dev, steps);
+            told = self.round(program, told, dev, steps);
         }
         told
     }
@@ -415,26 +417,26 @@ impl WorkersSession {
     /// A turn of each worker, up to one that is interrupted.
     fn round<P: Pmem + Drop, L: Ledger>(
         &mut self,
-        image: &Image,
+        program: &Program,
         told: Option<WorkersLines>,
         dev: &mut P,
         steps: &mut Steps<L>,
     ) -> Option<WorkersLines>
-        requires sound { IsReadyFor image.now self.old (P.device dev.old) }
+        requires sound { IsReadyFor program.now.image self.old (P.device dev.old) }
         requires up { self.old.down ≡ false }
         ensures does { (lines : List Line) × Extends told result lines
-            × TurnList image.now (round_from 0 (length self.old.tasks))
+            × TurnList program.now (round_from 0 (length self.old.tasks))
             (scene_of self.old (P.device dev.old) steps.old) lines
             (scene_of self.new (P.device dev.new) steps.new) }
-        ensures sound { IsReadyFor image.now self.new (P.device dev.new) }
+        ensures sound { IsReadyFor program.now.image self.new (P.device dev.new) }
         ensures count { length self.new.tasks ≡ length self.old.tasks }
-        ensures fewer { self.new.down ≡ false → turns_in image.now.parts.most self.new.tasks
+        ensures fewer { self.new.down ≡ false → turns_in program.now.image.parts.most self.new.tasks
             + busy_first (length self.old.tasks) self.old.tasks
-            ≤ turns_in image.now.parts.most self.old.tasks }
+            ≤ turns_in program.now.image.parts.most self.old.tasks }
     {
         let mut told = told;
         for worker in 0..self.count() {
-            told = self.turn(image, worker, told, dev, steps);
+            told = self.turn(program, worker, told, dev, steps);
             if self.down {
                 return told;
             }
@@ -445,47 +447,57 @@ impl WorkersSession {
     /// A turn of a worker. If it is interrupted, all workers are down.
     fn turn<P: Pmem + Drop, L: Ledger>(
         &mut self,
-        image: &Image,
+        program: &Program,
         worker: u32,
         told: Option<WorkersLines>,
         dev: &mut P,
         steps: &mut Steps<L>,
     ) -> Option<WorkersLines>
-        requires sound { IsReadyFor image.now self.old (P.device dev.old) }
+        requires sound { IsReadyFor program.now.image self.old (P.device dev.old) }
         requires up { self.old.down ≡ false }
         requires known { worker < length self.old.tasks }
         ensures does { (lines : List Line) × Extends told result lines
-            × TurnsOnce image.now worker (scene_of self.old (P.device dev.old) steps.old) lines
+            × TurnsOnce program.now worker (scene_of self.old (P.device dev.old) steps.old) lines
             (scene_of self.new (P.device dev.new) steps.new) }
-        ensures sound { IsReadyFor image.now self.new (P.device dev.new) }
+        ensures sound { IsReadyFor program.now.image self.new (P.device dev.new) }
         ensures count { length self.new.tasks ≡ length self.old.tasks }
         ensures others { OtherTasksStay worker self.old.tasks self.new.tasks }
-        ensures fewer { self.new.down ≡ false → turns_in image.now.parts.most self.new.tasks
+        ensures fewer { self.new.down ≡ false → turns_in program.now.image.parts.most self.new.tasks
             + busy_one (task_at self.old.tasks worker)
-            ≤ turns_in image.now.parts.most self.old.tasks }
+            ≤ turns_in program.now.image.parts.most self.old.tasks }
     {
-        let answer = self.workers.turn(image, worker, dev, steps);
+        let unsigned = is_unsigned(program, self.workers.tx(worker));
+        let answer = self.workers.turn(&program.image, worker, dev, steps);
         self.down = is_interrupted(answer);
-        self.turned(answer, worker, told)
+        self.turned(unsigned, answer, worker, told)
     }
 
-    /// The lines of a turn.
+    /// The lines of a turn, by whether its transaction returns `uint64_t`.
     fn turned(
         &self,
+        unsigned: bool,
         answer: TurnAnswer,
         worker: u32,
         told: Option<WorkersLines>,
     ) -> Option<WorkersLines>
-        ensures { Extends told result (turn_lines answer worker self.now.tasks) }
+        ensures { Extends told result (turn_lines unsigned answer worker self.now.tasks) }
     {
         match answer {
             TurnAnswer::Idle | TurnAnswer::Went => told,
             TurnAnswer::Done { value, logged } => {
-                let answer = Answer::Done { value, logged };
+                let answer = Answer::Done {
+                    value,
+                    unsigned,
+                    logged,
+                };
                 add(told, WorkersLine::Own { worker, answer })
             }
             TurnAnswer::Trap(kind) => {
                 let answer = Answer::Trap(kind);
+                add(told, WorkersLine::Own { worker, answer })
+            }
+            TurnAnswer::Aborted(kind) => {
+                let answer = Answer::Aborted(kind);
                 add(told, WorkersLine::Own { worker, answer })
             }
             TurnAnswer::Off => self.stopped(told),
@@ -595,8 +607,8 @@ impl WorkersSession {
         told
     }
 
-    /// Recovers a compartment, by the mark of the transaction that it owes. Gives the lines, and
-    /// whether no compartment after it is recovered.
+    /// Recovers a compartment, by the mark and the type of the transaction that it owes. Gives the
+    /// lines, and whether no compartment after it is recovered.
     fn recover<P: Pmem + Drop, L: Ledger>(
         &mut self,
         program: &Program,
@@ -613,7 +625,8 @@ impl WorkersSession {
         ensures recovers { (a : RecoverAnswer) × RecoversOne program.now worker a
             (scene_of self.old (P.device dev.old) steps.old)
             (scene_of self.new (P.device dev.new) steps.new)
-            × Extends told result.0 (Own worker (recovery_answer a) ∷ [])
+            × Extends told result.0 (recovered_line program.now worker a
+            (scene_of self.old (P.device dev.old) steps.old) ∷ [])
             × (result.1 ≡ ends_power a) × (result.1 ≡ true → self.new.down ≡ true) }
         ensures on { result.1 ≡ false → (P.device dev.new).on ≡ true }
         ensures dropped { task_at self.new.tasks worker ≡ None }
@@ -622,14 +635,15 @@ impl WorkersSession {
         ensures tasks { AreTasks program.now.image self.new.tasks }
         ensures lines { HasCompartments program.now.image self.new.tasks (P.device dev.new) }
     {
-        let policy = policy_of(owes_marked_in::<P, Brand>(program, worker, dev));
+        let (marked, unsigned) = owed_in::<P, Brand>(program, worker, dev);
+        let policy = policy_of(marked);
         let answer = self
             .workers
             .recover_one(&program.image, worker, policy, dev, steps);
         self.down = self.down || keeps_down(answer);
         let own = WorkersLine::Own {
             worker,
-            answer: answer_of_recovery(answer),
+            answer: answer_of_recovery(unsigned, answer),
         };
         (add(told, own), ends_power(answer))
     }

@@ -1,5 +1,5 @@
 -- A worker's own lines are steps of its own state, and no other line changes that.
-use Rattle.std.proofs.Common.{◌≡◌, inl, inr, ⊎_elim, ℕ, suc, Bool, true, false, ◌==◌, List, []}
+use Rattle.std.proofs.Common.{◌≡◌, ◌∙◌, inl, inr, ℕ, suc, Bool, true, false, ◌==◌, List, []}
 use Rattle.std.proofs.Common.{◌∷◌, ◌++◌, Option, Some, length, ℤ, refl, sym, ap, subst, eq-eqb}
 use Rattle.std.proofs.Common.{◌<◌, nat_lt, arith}
 use Rattle.std.proofs.lemmas.Bool.{eqb-true, eqb-false, ltb-false}
@@ -11,17 +11,18 @@ use Rattle.cnvm_script.specs.declared.command.Command.TheVariants as session
 use Rattle.cnvm_session.specs.declared.answer.Answer.{Answer}
 use Rattle.cnvm_session.specs.declared.answer.Answer.TheVariants as answer
 use Rattle.cnvm_session.specs.declared.program.Program.{Program}
-use Rattle.cnvm_session.specs.Marks.{rolls_back_of, looks_of}
+use Rattle.cnvm_session.specs.Marks.{looks_of}
 use Rattle.workers_script.specs.declared.command.WorkersCommand.{WorkersCommand}
 use Rattle.workers_script.specs.declared.command.WorkersCommand.TheVariants as command
 use Rattle.workers_session.specs.declared.line.WorkersLine.{WorkersLine}
 use Rattle.workers_session.specs.declared.line.WorkersLine.TheVariants as line
 use Rattle.session_law.specs.Agrees.{Agrees}
-use Rattle.session_law.specs.State.{Pending, Standing, Down, SourceState, standing_as}
-use Rattle.session_law.specs.Answers.{RunsBy, RunsAs, CallsWith, CallsTo, CallsNamed, Calls}
+use Rattle.session_law.specs.State.{Pending, Standing, Ready, Down, SourceState, standing_as}
+use Rattle.session_law.specs.Answers.{RunsAs, CallsWith, CallsTo, CallsNamed, Calls}
 use Rattle.session_law.specs.Answers.{Powers, Answers}
 use Rattle.workers_source_law.specs.States.{States, RestStays}
-use Rattle.workers_source_law.specs.Lines.{Owes, StartLines, Ends, TurnLine, TurnLines}
+use Rattle.workers_source_law.specs.Lines.{Owes, StartLines, IsEndedWith, Ends, TurnLine}
+use Rattle.workers_source_law.specs.Lines.{TurnLines}
 use Rattle.workers_source_law.specs.Lines.{worker_image, RecoveryLines, PowerLines}
 use Rattle.workers_source_law.specs.Law.{Instant, AllHold, WorkersStep}
 use Rattle.workers_source_law.specs.Alone.{OwnEvent, Began, Ended, Recovered, Told, Busy, Barred}
@@ -29,7 +30,7 @@ use Rattle.workers_source_law.specs.Alone.{Stray, RecoversAlone, BeginsAlone, En
 use Rattle.workers_source_law.specs.Alone.{IsBarred, AloneStep, AloneChain, event_if, told_if}
 use Rattle.workers_source_law.specs.Alone.{named_event, plain_event, own_event, own_events_of}
 use Rattle.workers_source_law.specs.Alone.{own_events_in, own_events_before, AloneLaw, AlonePartLaw}
-use Rattle.workers_source_law.specs.Alone.{AsCallLaw}
+use Rattle.workers_source_law.specs.Alone.{EndsAsCall, AsCallLaw}
 use Rattle.workers_source_law.proofs.Counts.{command_count}
 use Rattle.workers_source_law.proofs.OwnLines.{IsNone, Tells, Says, start_says, show_says}
 use Rattle.workers_source_law.proofs.OwnLines.{last_says}
@@ -161,13 +162,6 @@ module _ (program : Program) where
             (s worker) (t worker)
         told c answer.NoMemory is = stay s t same
         told c answer.RefusedDown is = stay s t same
-        told c answer.RefusedNumbers is =
-            kept (Told (worker_image program v d) c answer.RefusedNumbers) (
-              ⊎_elim (λ answers. inl (subst (λ (u : SourceState).
-                  Answers program (s v) (worker_image program v d) c answer.RefusedNumbers u)
-                  (sym same_own) answers)) (λ out. inr out) is,
-              same_own,
-            )
         told c a is =
             kept (Told (worker_image program v d) c a) (
               subst (λ (u : SourceState). Answers program (s v) (worker_image program v d) c a u)
@@ -271,12 +265,12 @@ module _ (program : Program) where
       step_alone (command.Turn workers) step =
           turns_alone (command.Turn workers) x.scene.device (λ w a. refl) (λ a. refl)
           (length x.scene.workers.tasks) less lines x.states z.states
-          (turns_say program.image x.scene lines z.scene x.scene.workers.down workers step.did)
+          (turns_say program x.scene lines z.scene x.scene.workers.down workers step.did)
           step.meant
       step_alone command.Finish step =
           turns_alone command.Finish x.scene.device (λ w a. refl) (λ a. refl)
           (length x.scene.workers.tasks) less lines x.states z.states
-          (finish_says program.image x.scene lines z.scene x.scene.workers.down step.did)
+          (finish_says program x.scene lines z.scene x.scene.workers.down step.did)
           step.meant
       step_alone (command.Stop left) step = no_line (command.Stop left) step.meant
       step_alone (command.Fault at) step = no_line (command.Fault at) step.meant
@@ -323,23 +317,39 @@ part_alone program (c ∷ commands) x w y w' (inr broke) worker agrees held less
 
 -- a transaction begun and ended is a call of a session
 
-module _ (program : Program) (s : SourceState) (tx : ℕ) (args : List ℤ) where
+module _ (program : Program) (s : SourceState) (ready : s.standing ≡ Ready) (tx : ℕ)
+    (args : List ℤ) where
   abbrev call : Pending
   call = record { tx = tx; args = args }
 
   abbrev owing : SourceState
   owing = standing_as (Down (Some call)) s
 
+  -- a look leaves the state as it was
+  as_it_was : standing_as Ready owing ≡ s
+  as_it_was = ap (λ (st : Standing). standing_as st s) (sym ready)
+
+  done_as : (looks : Bool) (value : ℤ) (unsigned : Bool) (logged : ℕ) (t : SourceState)
+      (image : Words) → IsEndedWith looks program call value unsigned logged owing t
+      → RunsAs looks false program s image tx args (answer.Done value unsigned logged) t
+  done_as true value unsigned logged t image is = (is.0, is.1, is.2 ∙ as_it_was, is.3)
+  done_as false value unsigned logged t image is = is
+
   runs : (a : Answer) (t : SourceState) (image : Words) → Ends program call a owing t
-      → RunsBy false program s image tx args a t
-  runs (answer.Done value logged) t image is = is
-  runs (answer.Trap kind) t image is = (refl, is.0, is.1)
+      → EndsAsCall program s image tx args a t
+  runs (answer.Done value unsigned logged) t image is =
+      done_as (looks_of program tx) value unsigned logged t image is
+  runs (answer.Trap kind) t image is =
+      subst (λ (looks : Bool). RunsAs looks false program s image tx args (answer.Trap kind) t)
+      (sym is.2) (refl, is.0, is.1)
+  runs (answer.Aborted kind) t image is =
+      subst (λ (looks : Bool). RunsAs looks false program s image tx args (answer.Aborted kind) t)
+      (sym is.0) (is.1.0, is.1.1 ∙ as_it_was)
   runs (answer.Stopped at) t image is = is
   runs answer.Silent t image is = absurd is
-  runs (answer.Aborted kind) t image is = absurd is
   runs answer.DeviceFault t image is = absurd is
   runs answer.RecoveredNone t image is = absurd is
-  runs (answer.RecoveredRedone value logged) t image is = absurd is
+  runs (answer.RecoveredRedone value unsigned logged) t image is = absurd is
   runs (answer.RecoveredTrap kind) t image is = absurd is
   runs (answer.RecoveredAborted kind) t image is = absurd is
   runs (answer.Shown text) t image is = absurd is
@@ -357,22 +367,20 @@ module _ (program : Program) (s : SourceState) (tx : ℕ) (args : List ℤ) wher
   same_call other is = cc
 
   ended : (a : Answer) (t : SourceState) (image : Words) → EndsAlone program a owing t
-      → RunsBy false program s image tx args a t
+      → EndsAsCall program s image tx args a t
   ended a t image is =
       runs a t image
       (subst (λ (c : Pending). Ends program c a owing t) (same_call is.0 is.1) is.2)
 
--- what a session answers to a call that takes these arguments, isn't marked and may store
+-- what a session answers to a call that takes these arguments and isn't marked
 answers_as : (program : Program) (name : List ℕ) (args : List ℤ) (a : Answer) (s r t : SourceState)
     (image : Words) (begins : BeginsAlone program name args s r)
-    → looks_of program begins.tx ≡ false → RunsBy false program s image begins.tx args a t
+    → RunsAs (looks_of program begins.tx) false program s image begins.tx args a t
     → Answers program s image (session.Call name args) a t
-answers_as program name args a s r t image begins stores runs =
-    let unmarked = subst (λ (b : Bool). RunsAs false b program s image begins.tx args a t)
-    (sym begins.plain) runs in
+answers_as program name args a s r t image begins runs =
     let marked = subst (λ (b : Bool).
-    RunsAs b (rolls_back_of program begins.tx) program s image begins.tx args a t) (sym stores)
-    unmarked in
+    RunsAs (looks_of program begins.tx) b program s image begins.tx args a t) (sym begins.plain)
+    runs in
     let fits = subst (λ (b : Bool). CallsWith b program s image begins.tx args a t)
     (sym (eq-eqb (length args) (length args) refl)) marked in
     let takes = subst (λ (o : Option ℕ). CallsTo o program s image begins.tx args a t)
@@ -386,7 +394,7 @@ as_call program name args s r image begins = record {
   tx = begins.tx;
   named = begins.named;
   interrupted = begins.owed;
-  ended = λ a t ends. ended program s begins.tx args a t image
+  ended = λ a t ends. ended program s begins.ready begins.tx args a t image
       (subst (λ (u : SourceState). EndsAlone program a u t) begins.owed ends);
-  called = λ stores a t runs. answers_as program name args a s r t image begins stores runs;
+  called = λ a t runs. answers_as program name args a s r t image begins runs;
 }

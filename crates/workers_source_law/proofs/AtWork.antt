@@ -2,7 +2,7 @@
 -- began, and what the source says when it ends.
 use Rattle.std.proofs.Common.{◌≡◌, ℕ, zero, suc, ◌+◌, ◌-◌, ◌^◌, ◌<◌, ◌≤◌, Bool, true}
 use Rattle.std.proofs.Common.{false, ◌&&◌, ◌==◌, if◌then◌else◌, List, [], length, Some}
-use Rattle.std.proofs.Common.{None, ℤ, pos, refl, sym, ap, ◌∙◌, subst, arith}
+use Rattle.std.proofs.Common.{Option, None, ℤ, pos, refl, sym, ap, ◌∙◌, subst, arith}
 use Rattle.cache_model.specs.Event.{CacheEvent}
 use Rattle.cache_model.specs.Cache.{Words, Cache, view}
 use Rattle.cache_model.specs.Play.{play}
@@ -35,11 +35,13 @@ use Rattle.tx_run.specs.Called.{Called, IsTxCalled}
 use Rattle.cut_law.specs.Law.{call_of, pool_with, BeginsOn, RunsSound}
 use Rattle.pool_workers.specs.declared.answer.TurnAnswer.{TurnAnswer}
 use Rattle.pool_workers.specs.declared.task.Task.{Task}
+use Rattle.pool_workers.specs.declared.look.Look.TheVariants.{Fresh, Going, Seen}
 use Rattle.pool_workers.specs.declared.task.Task.TheVariants.{Begun, Running, Ending, Cut}
-use Rattle.pool_workers.specs.Task.{machine_at, going, stepped_task, task_past}
+use Rattle.pool_workers.specs.declared.task.Task.TheVariants.{Looking}
+use Rattle.pool_workers.specs.Task.{machine_at, task_tx, going, stepped_task, task_past}
 use Rattle.pool_workers.specs.Task.{end_answer, piece_of, IsTask, IsUncut, IsUncutOr, WentWhole}
 use Rattle.workers_law.specs.AsCall.{begun_task}
-use Rattle.workers_law.specs.Fate.{fate_of, task_logs, task_steps}
+use Rattle.workers_law.specs.Fate.{fate_of, task_logs, task_steps, is_looking, told_end}
 use Rattle.workers_law.specs.Fenced.{fenced_cache}
 use Rattle.workers_law.specs.Standing.{ShowsPlayed, ShowsSome, TaskStands}
 use Rattle.workers_law.proofs.Powers.{fenced}
@@ -54,7 +56,7 @@ use Rattle.pmem.proofs.Refused.{all_cache}
 use Rattle.cnvm_session.specs.declared.mode.Mode.TheVariants as mode
 use Rattle.cnvm_session.specs.declared.program.Program.{Program}
 use Rattle.cnvm_session.specs.Commands.{tx_parameters}
-use Rattle.cnvm_session.specs.Marks.{rolls_back_of}
+use Rattle.cnvm_session.specs.Marks.{rolls_back_of, looks_of, unsigned_of}
 use Rattle.cnvm_session.specs.Pool.{sizes_of}
 use Rattle.session_law.specs.Words.{AreWords}
 use Rattle.session_law.specs.Agrees.{Agrees, RunsAs}
@@ -81,8 +83,11 @@ pub record IsAtWork (program : Program) (super : Words) (call : Pending) (t : Ta
   pub takes : tx_parameters program.image call.tx ≡ Some (length call.args)
   pub words : AreWords call.args
   pub plain : rolls_back_of program call.tx ≡ false
+  pub stores : looks_of program call.tx ≡ false
   pub ready : standing_of (view start) ≡ stands.Ready
   pub task : IsTask program.image t
+  pub kind : is_looking t ≡ false
+  pub names : task_tx t ≡ call.tx
   pub uncut : IsUncut t
   pub stands : TaskStands program.image call.tx call.args start t c
   pub fate : fate_of program.image t c
@@ -125,28 +130,101 @@ numbers_of image ready mark = go (is_number (image DONE) && is_number (image ATT
 
 -- after a turn that wasn't refused the task is uncut
 
-going_uncut : (m : Machine) (a k : ℕ) → IsUncut (going m a k)
-going_uncut m a k = go (k == 0)
+going_uncut : (tx : ℕ) (m : Machine) (a k : ℕ) → IsUncut (going tx m a k)
+going_uncut tx m a k = go (k == 0)
   where
-    go : (b : Bool) → IsUncut (if b then Ending (Trapped trap.Steps) (length m.records.words)
-        else Running m a k)
+    go : (b : Bool) → IsUncut (if b then Ending tx (Trapped trap.Steps) (length m.records.words)
+        else Running tx m a k)
     go true = tt
     go false = tt
 
-stepped_uncut : (a k : ℕ) (g : Logging) (x : Turn) → IsUncut (stepped_task a k g x)
-stepped_uncut a k g (Plays es h t) = going_uncut (machine_at t h) a (k - 1)
-stepped_uncut a k g (Stops end) = tt
+stepped_uncut : (tx a k : ℕ) (g : Logging) (x : Turn) → IsUncut (stepped_task tx a k g x)
+stepped_uncut tx a k g (Plays es h t) = going_uncut tx (machine_at t h) a (k - 1)
+stepped_uncut tx a k g (Stops end) = tt
 
-past_uncut : (image : Image) (t : Task) (c : Cache) → IsUncut t → IsUncutOr (task_past image t c)
+pub past_uncut : (image : Image) (t : Task) (c : Cache) → IsUncut t
+    → IsUncutOr (task_past image t c)
 past_uncut image (Begun tx args m) c uncut =
     let sealed : Cache = play c (due_seal tx args c) in
-    going_uncut (machine_at m.processor (logging_on EndPool image.parts.sizes sealed))
+    going_uncut tx (machine_at m.processor (logging_on EndPool image.parts.sizes sealed))
     (attempt_in image.parts.sizes (view sealed)) image.parts.most
-past_uncut image (Running m a k) c uncut =
-    stepped_uncut a k m.records
+past_uncut image (Running tx m a k) c uncut =
+    stepped_uncut tx a k m.records
     (turn_of image m.records m.processor (heap_in image.parts.sizes c))
-past_uncut image (Ending end l) c uncut = tt
+past_uncut image (Ending tx end l) c uncut = tt
+past_uncut image (Looking tx (Fresh m)) c uncut = tt
+past_uncut image (Looking tx (Going m k)) c uncut = tt
+past_uncut image (Looking tx (Seen end)) c uncut = tt
 past_uncut image (Cut p) c uncut = absurd uncut
+
+-- nor does it change the transaction's number
+
+going_names : (tx : ℕ) (m : Machine) (a k : ℕ) → task_tx (going tx m a k) ≡ tx
+going_names tx m a k = go (k == 0)
+  where
+    go : (b : Bool) → task_tx (if b then Ending tx (Trapped trap.Steps) (length m.records.words)
+        else Running tx m a k) ≡ tx
+    go true = refl
+    go false = refl
+
+stepped_names : (tx a k : ℕ) (g : Logging) (x : Turn) → task_tx (stepped_task tx a k g x) ≡ tx
+stepped_names tx a k g (Plays es h t) = going_names tx (machine_at t h) a (k - 1)
+stepped_names tx a k g (Stops end) = refl
+
+-- the transaction that is left, if any, has this number
+abbrev pub NamesOr : ℕ → Option Task → Type 0
+NamesOr n None = Unit {0}
+NamesOr n (Some t) = task_tx t ≡ n
+
+pub past_names : (image : Image) (t : Task) (c : Cache) → IsUncut t
+    → NamesOr (task_tx t) (task_past image t c)
+past_names image (Begun tx args m) c uncut =
+    let sealed : Cache = play c (due_seal tx args c) in
+    going_names tx (machine_at m.processor (logging_on EndPool image.parts.sizes sealed))
+    (attempt_in image.parts.sizes (view sealed)) image.parts.most
+past_names image (Running tx m a k) c uncut =
+    stepped_names tx a k m.records
+    (turn_of image m.records m.processor (heap_in image.parts.sizes c))
+past_names image (Ending tx end l) c uncut = tt
+past_names image (Looking tx (Fresh m)) c uncut = refl
+past_names image (Looking tx (Going m k)) c uncut = refl
+past_names image (Looking tx (Seen end)) c uncut = tt
+past_names image (Cut p) c uncut = absurd uncut
+
+-- nor whether it only looks
+
+going_stores : (tx : ℕ) (m : Machine) (a k : ℕ) → is_looking (going tx m a k) ≡ false
+going_stores tx m a k = go (k == 0)
+  where
+    go : (b : Bool) → is_looking (if b then Ending tx (Trapped trap.Steps) (length m.records.words)
+        else Running tx m a k) ≡ false
+    go true = refl
+    go false = refl
+
+stepped_stores : (tx a k : ℕ) (g : Logging) (x : Turn)
+    → is_looking (stepped_task tx a k g x) ≡ false
+stepped_stores tx a k g (Plays es h t) = going_stores tx (machine_at t h) a (k - 1)
+stepped_stores tx a k g (Stops end) = refl
+
+-- the transaction that is left, if any, looks or doesn't
+abbrev pub KindOr : Bool → Option Task → Type 0
+KindOr looks None = Unit {0}
+KindOr looks (Some t) = is_looking t ≡ looks
+
+pub past_kind : (image : Image) (t : Task) (c : Cache) → IsUncut t
+    → KindOr (is_looking t) (task_past image t c)
+past_kind image (Begun tx args m) c uncut =
+    let sealed : Cache = play c (due_seal tx args c) in
+    going_stores tx (machine_at m.processor (logging_on EndPool image.parts.sizes sealed))
+    (attempt_in image.parts.sizes (view sealed)) image.parts.most
+past_kind image (Running tx m a k) c uncut =
+    stepped_stores tx a k m.records
+    (turn_of image m.records m.processor (heap_in image.parts.sizes c))
+past_kind image (Ending tx end l) c uncut = tt
+past_kind image (Looking tx (Fresh m)) c uncut = refl
+past_kind image (Looking tx (Going m k)) c uncut = refl
+past_kind image (Looking tx (Seen end)) c uncut = tt
+past_kind image (Cut p) c uncut = absurd uncut
 
 module _ (program : Program) (super : Words) (call : Pending) (s : SourceState) where
   abbrev due_of : Cache → List CacheEvent
@@ -165,8 +243,11 @@ module _ (program : Program) (super : Words) (call : Pending) (s : SourceState) 
         takes = w.takes;
         words = w.words;
         plain = w.plain;
+        stores = w.stores;
         ready = w.ready;
         task = w.task;
+        kind = w.kind;
+        names = w.names;
         uncut = w.uncut;
         stands = (turns program.image call.tx call.args w.start).2 t c k w.stands;
         fate = fate.0 ∙ w.fate;
@@ -189,8 +270,13 @@ module _ (program : Program) (super : Words) (call : Pending) (s : SourceState) 
         takes = w.takes;
         words = w.words;
         plain = w.plain;
+        stores = w.stores;
         ready = w.ready;
         task = task;
+        kind = subst (KindOr (is_looking t)) (sym went.1)
+            (past_kind program.image t d.cache w.uncut) ∙ w.kind;
+        names = subst (NamesOr (task_tx t)) (sym went.1)
+            (past_names program.image t d.cache w.uncut) ∙ w.names;
         uncut = subst IsUncutOr (sym went.1) (past_uncut program.image t d.cache w.uncut);
         stands = (turns program.image call.tx call.args w.start).1 a t (Some u) d b w.task w.stands
             went;
@@ -202,22 +288,26 @@ module _ (program : Program) (super : Words) (call : Pending) (s : SourceState) 
   -- it begins
   pub work_begins : (c : Cache) → AreMarked c → IsResting program super (still c) s
       → tx_parameters program.image call.tx ≡ Some (length call.args) → AreWords call.args
-      → rolls_back_of program call.tx ≡ false → standing_of (view c) ≡ stands.Ready
+      → rolls_back_of program call.tx ≡ false → looks_of program call.tx ≡ false
+      → standing_of (view c) ≡ stands.Ready
       → IsAtWork program super call (begun_task program.image call.tx call.args) c s
-  work_begins c marked resting takes words plain ready = record {
+  work_begins c marked resting takes words plain stores ready = record {
     start = c;
     marked = marked;
     resting = resting;
     takes = takes;
     words = words;
     plain = plain;
+    stores = stores;
     ready = ready;
     task = refl;
+    kind = refl;
+    names = refl;
     uncut = tt;
     stands = (turns program.image call.tx call.args c).0;
     fate = refl;
     logs = refl;
-    phase = phases.0 program.image (pos (suc s.done)) call.tx call.args c
+    phase = phases.0 false program.image (pos (suc s.done)) call.tx call.args c
         (rest_lacks program super c s resting) (rest_number program super c s resting);
   }
 
@@ -315,7 +405,8 @@ module _ (program : Program) (super : Words) (call : Pending) (s : SourceState) 
       -- it ended with a value
       pub work_done : (v : ℤ) (l : ℕ) → fate0 ≡ Halted v
           → l ≡ task_logs program.image (begun_task program.image call.tx call.args) start_of
-          → (u : SourceState) × IsDoneWith false program s call.tx call.args v l Ready u
+          → (u : SourceState)
+          × IsDoneWith false program s call.tx call.args v (unsigned_of program call.tx) l Ready u
           × (u.standing ≡ Ready) × IsResting program super (still c) u
       work_done v l halted logs =
           let ran = (ascalls.called program.image call.tx call.args 0 start_of 0).0 v halted in
@@ -326,14 +417,16 @@ module _ (program : Program) (super : Words) (call : Pending) (s : SourceState) 
           w.words w.plain (called.Done v own_logs) (still over) 0
           (0 + task_steps program.image (begun_task program.image call.tx call.args) start_of) refl
           (as_called (called.Done v own_logs) ran) in
-          let at : IsDoneWith false program s call.tx call.args v own_logs Ready done.0 = done.1 in
+          let typed = unsigned_of program call.tx in
+          let at : IsDoneWith false program s call.tx call.args v typed own_logs Ready done.0 =
+          done.1 in
           let u : SourceState = done_with at.0 v Ready s in
           let rests : IsResting program super (still over) u =
           (subst (λ (x : SourceState). Holds program super mode.Ready (still over) x) at.2 done.2).1
           in (
             u,
-            subst (λ (n : ℕ). IsDoneWith false program s call.tx call.args v n Ready u) (sym logs)
-                (at.0, at.1, refl),
+            subst (λ (n : ℕ). IsDoneWith false program s call.tx call.args v typed n Ready u)
+                (sym logs) (at.0, at.1, refl, refl),
             refl,
             rest_same program super over c u (shown_rest rests.rest) shown_view rests,
           )
@@ -372,6 +465,8 @@ pub work_ends : (program : Program) (super : Words) (call : Pending) (s : Source
 work_ends program super call s a t d b w went = record {
   all = (turns program.image call.tx call.args w.start).1 a t None d b w.task w.stands went;
   told = went.0 ∙ fates.2 program.image t d.cache (sym went.1)
+      ∙ ap (λ (looks : Bool). told_end looks (fate_of program.image t d.cache)
+      (task_logs program.image t d.cache)) w.kind
       ∙ ap (λ (e : End). end_answer e (task_logs program.image t d.cache)) w.fate
       ∙ ap (end_answer (fate_of program.image (begun_task program.image call.tx call.args) w.start))
       w.logs;

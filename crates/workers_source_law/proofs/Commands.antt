@@ -1,5 +1,5 @@
 -- Each command's lines are those of the source.
-use Rattle.std.proofs.Common.{◌≡◌, ◌&&◌, inl, inr, ℕ, ◌<◌, ◌==◌, Bool, true, false, nat_lt}
+use Rattle.std.proofs.Common.{◌≡◌, ◌&&◌, ◌⊎◌, inl, inr, ℕ, ◌<◌, ◌==◌, Bool, true, false, nat_lt}
 use Rattle.std.proofs.Common.{if◌then◌else◌, int_eq, List, [], ◌∷◌, length, Option, Some, None, ℤ}
 use Rattle.std.proofs.Common.{pos, is_some, refl, sym, ap, ◌∙◌, subst}
 use Rattle.std.proofs.lemmas.Bool.{ltb-true, eqb-true}
@@ -21,12 +21,13 @@ use Rattle.crash_law.specs.Law.{AreMarked}
 use Rattle.tx_run.specs.Standing.{is_number, standing_of, trap_of_mark}
 use Rattle.pool_workers.specs.declared.task.Task.{Task}
 use Rattle.pool_workers.specs.Crew.{task_at, StaysAside, standing_at}
+use Rattle.pool_workers.specs.Task.{first_task}
 use Rattle.workers_law.specs.AsCall.{begun_task}
 use Rattle.workers_law.specs.Left.{left_of}
 use Rattle.cnvm_session.specs.declared.answer.Answer.TheVariants as answer
 use Rattle.cnvm_session.specs.declared.program.Program.{Program}
 use Rattle.cnvm_session.specs.Commands.{call_number, tx_parameters}
-use Rattle.cnvm_session.specs.Marks.{rolls_back_of}
+use Rattle.cnvm_session.specs.Marks.{rolls_back_of, looks_of}
 use Rattle.cnvm_session.specs.Pool.{sizes_of}
 use Rattle.workers_script.specs.declared.command.WorkersCommand.{WorkersCommand}
 use Rattle.workers_script.specs.declared.command.WorkersCommand.TheVariants as command
@@ -44,7 +45,7 @@ use Rattle.session_law.specs.Words.{AreWords}
 use Rattle.session_law.specs.Agrees.{Agrees}
 use Rattle.session_law.specs.State.{Pending, Standing, Ready, Down, Unusable, SourceState}
 use Rattle.session_law.specs.State.{standing_as}
-use Rattle.session_law.specs.Holds.{IsResting, HeldAs}
+use Rattle.session_law.specs.Holds.{IsResting, OwesBy, HeldAs}
 use Rattle.session_law.proofs.Heaps.{pool_same, shown_same, pool_fits}
 use Rattle.session_law.proofs.Ones.{at_view}
 use Rattle.session_law.proofs.Reading.{is_marked}
@@ -53,6 +54,7 @@ use Rattle.workers_source_law.specs.Lines.{StartLines, TellsState, LinesMean}
 use Rattle.workers_source_law.specs.Law.{HasWordArgs, WorkerHolds, AllHold, PhasesHold}
 use Rattle.workers_source_law.proofs.Stills.{still, own, rest_stands}
 use Rattle.workers_source_law.proofs.AtWork.{IsAtWork, work_begins, work_owes}
+use Rattle.workers_source_law.proofs.AtLook.{look_task, IsAtLook, look_begins, look_owes, IsBusyIn}
 use Rattle.workers_source_law.proofs.Invariants.{UpAs, Stands, AllStand, changed, changed_own}
 use Rattle.workers_source_law.proofs.Invariants.{changed_others, stands_down, stands_work}
 use Rattle.workers_source_law.proofs.Invariants.{others_stand}
@@ -208,21 +210,46 @@ module _ (program : Program) (supers : ℕ → Words) where
       abbrev c : Cache
       c = own program worker x.device
 
-      begun : tx_parameters program.image tx ≡ Some (length args)
+      -- the worker is in its transaction, which it owes
+      record IsBusyFirst (looks : Bool) : Type 0 where
+        busy : IsBusyIn program super call (first_task looks program.image tx args) c owing
+        owes : OwesBy false program super call (still c) owing
+
+      busy_first : (looks : Bool) → looks_of program tx ≡ looks
+          → tx_parameters program.image tx ≡ Some (length args)
           → rolls_back_of program tx ≡ false
-          → standing_at program.image worker x.device ≡ stands.Ready
-          → HasBegun program.image worker tx args x lines y → Started
-      begun takes plain ready is =
+          → (looks ≡ false → standing_at program.image worker x.device ≡ stands.Ready)
+          → IsBusyFirst looks
+      busy_first true looks takes plain ready =
+          let look : IsAtLook program super call (look_task program call) c owing =
+          look_begins program super call owing c
+          (rest_stands program super (still c) (s worker) (Down (Some call)) free.rests) takes words
+          plain looks in
+          record {
+            busy = record { looks = true; busy = look };
+            owes = look_owes program super call owing agrees (look_task program call) c look;
+          }
+      busy_first false stores takes plain ready =
           let work : IsAtWork program super call (begun_task program.image tx args) c owing =
           work_begins program super call owing c free.marked
           (rest_stands program super (still c) (s worker) (Down (Some call)) free.rests) takes words
-          plain ready in
-          let owes = work_owes program super call owing agrees (begun_task program.image tx args) c
-          work c (record {
-            left = left_of program.image (begun_task program.image tx args) c;
-            shows = work.stands;
-          })
-          in
+          plain stores (ready refl) in
+          record {
+            busy = record { looks = false; busy = work };
+            owes = work_owes program super call owing agrees (begun_task program.image tx args) c
+                work c (record {
+                  left = left_of program.image (begun_task program.image tx args) c;
+                  shows = work.stands;
+                });
+          }
+
+      begun : (looks : Bool) → looks_of program tx ≡ looks
+          → tx_parameters program.image tx ≡ Some (length args)
+          → rolls_back_of program tx ≡ false
+          → (looks ≡ false → standing_at program.image worker x.device ≡ stands.Ready)
+          → HasBegun looks program.image worker tx args x lines y → Started
+      begun looks kind takes plain ready is =
+          let first : IsBusyFirst looks = busy_first looks kind takes plain ready in
           let t : States = changed worker owing s in
           let aside : StaysAside program.image worker x.device y.device =
           subst (λ (d : Device). StaysAside program.image worker x.device d) (sym is.device)
@@ -249,37 +276,49 @@ module _ (program : Program) (supers : ℕ → Words) where
                 (subst (λ (d : Device). Stands program super y.workers.down
                 (task_at y.workers.tasks worker) (own program worker d) owing) (sym is.device)
                 (stands_work program super call y.workers.down (task_at y.workers.tasks worker) c
-                owing refl free.marked owes plain
-                (λ up. (begun_task program.image tx args, is.begun, work))))),
+                owing refl free.marked first.owes plain
+                (λ up. (first_task looks program.image tx args, is.begun, first.busy))))),
           )
 
-      begins_as : (st : device.Standing) → standing_at program.image worker x.device ≡ st
-          → tx_parameters program.image tx ≡ Some (length args) → rolls_back_of program tx ≡ false
-          → BeginsAs st program.image worker tx args x lines y → Started
-      begins_as stands.Ready ready takes plain (inl is) = begun takes plain ready is
-      begins_as stands.Ready ready takes plain (inr is) = (
+      begun_or : (looks : Bool) → looks_of program tx ≡ looks
+          → tx_parameters program.image tx ≡ Some (length args)
+          → rolls_back_of program tx ≡ false
+          → (looks ≡ false → standing_at program.image worker x.device ≡ stands.Ready)
+          → HasBegun looks program.image worker tx args x lines y ⊎ RunsOut x lines y → Started
+      begun_or looks kind takes plain ready (inl is) = begun looks kind takes plain ready is
+      begun_or looks kind takes plain ready (inr is) = (
         s,
         subst (λ (ls : List WorkersLine). StartLines program worker name args ls s s) (sym is.0)
             refl,
         out_stands x y s lines all is,
       )
-      begins_as stands.Numbers ready takes plain is =
+
+      begins_as : (st : device.Standing) (looks : Bool) → looks_of program tx ≡ looks
+          → standing_at program.image worker x.device ≡ st
+          → tx_parameters program.image tx ≡ Some (length args) → rolls_back_of program tx ≡ false
+          → BeginsAs st looks program.image worker tx args x lines y → Started
+      begins_as stands.Ready looks kind ready takes plain is =
+          begun_or looks kind takes plain (λ stores. ready) is
+      begins_as stands.Numbers true kind ready takes plain is =
+          begun_or true kind takes plain (λ stores. absurd cc) is
+      begins_as stands.Numbers false kind ready takes plain is =
           refused_start (line.Plain answer.RefusedNumbers) refl is
-      begins_as (stands.Unusable kind) ready takes plain is = absurd is
-      begins_as stands.Off ready takes plain is = absurd is
+      begins_as (stands.Unusable why) looks kind ready takes plain is = absurd is
+      begins_as stands.Off looks kind ready takes plain is = absurd is
 
       begins_with : (count : ℕ) (same : Bool) → (count == length args) ≡ same
           → tx_parameters program.image tx ≡ Some count → rolls_back_of program tx ≡ false
-          → BeginsWith same program.image worker tx args x lines y → Started
+          → BeginsWith same (looks_of program tx) program.image worker tx args x lines y → Started
       begins_with count true same takes plain is =
-          begins_as (standing_at program.image worker x.device) refl
+          begins_as (standing_at program.image worker x.device) (looks_of program tx) refl refl
           (takes ∙ ap (λ (n : ℕ). Some n) (eqb-true count (length args) same)) plain is
       begins_with count false same takes plain is =
           refused_start (line.Plain answer.RefusedArity) refl is
 
       begins_by : (count : ℕ) (marked : Bool) → rolls_back_of program tx ≡ marked
           → tx_parameters program.image tx ≡ Some count
-          → BeginsBy marked count program.image worker tx args x lines y → Started
+          → BeginsBy marked (looks_of program tx) count program.image worker tx args x lines y
+          → Started
       begins_by count true mark takes is = refused_start line.RefusedAbort refl is
       begins_by count false mark takes is =
           begins_with count (count == length args) refl takes mark is

@@ -12,7 +12,7 @@ use Rattle.pool_workers.specs.declared.task.Task.{Task}
 use Rattle.pool_workers.specs.Crew.{task_at, standing_at}
 use Rattle.cnvm_session.specs.declared.program.Program.{Program}
 use Rattle.cnvm_session.specs.Commands.{call_number, tx_parameters, fallen}
-use Rattle.cnvm_session.specs.Marks.{rolls_back_of}
+use Rattle.cnvm_session.specs.Marks.{rolls_back_of, looks_of}
 use Rattle.workers_script.specs.declared.command.WorkersCommand.{WorkersCommand}
 use Rattle.workers_script.specs.declared.command.WorkersCommand.TheVariants as command
 use Rattle.workers_session.specs.declared.line.WorkersLine.{WorkersLine}
@@ -32,30 +32,33 @@ same x y is = ap (λ (z : Scene). count z) is
 
 module _ (image : Image) (worker : ℕ) (args : List ℤ) (x : Scene) (lines : List WorkersLine)
     (y : Scene) where
-  begins_as : (st : Standing) (tx : ℕ) → BeginsAs st image worker tx args x lines y
-      → count y ≡ count x
-  begins_as stands.Ready tx (inl begun) = begun.count
-  begins_as stands.Ready tx (inr out) = ap (λ (z : Scene). count z) out.1
-  begins_as stands.Numbers tx is = same x y is.1
-  begins_as (stands.Unusable kind) tx is = absurd is
-  begins_as stands.Off tx is = absurd is
+  begins_as : (st : Standing) (looks : Bool) (tx : ℕ)
+      → BeginsAs st looks image worker tx args x lines y → count y ≡ count x
+  begins_as stands.Ready looks tx (inl begun) = begun.count
+  begins_as stands.Ready looks tx (inr out) = ap (λ (z : Scene). count z) out.1
+  begins_as stands.Numbers true tx (inl begun) = begun.count
+  begins_as stands.Numbers true tx (inr out) = ap (λ (z : Scene). count z) out.1
+  begins_as stands.Numbers false tx is = same x y is.1
+  begins_as (stands.Unusable kind) looks tx is = absurd is
+  begins_as stands.Off looks tx is = absurd is
 
-  begins_with : (fits : Bool) (tx : ℕ) → BeginsWith fits image worker tx args x lines y
+  begins_with : (fits looks : Bool) (tx : ℕ) → BeginsWith fits looks image worker tx args x lines y
       → count y ≡ count x
-  begins_with true tx is = begins_as (standing_at image worker x.device) tx is
-  begins_with false tx is = same x y is.1
+  begins_with true looks tx is = begins_as (standing_at image worker x.device) looks tx is
+  begins_with false looks tx is = same x y is.1
 
-  begins_by : (marked : Bool) (n tx : ℕ) → BeginsBy marked n image worker tx args x lines y
-      → count y ≡ count x
-  begins_by true n tx is = same x y is.1
-  begins_by false n tx is = begins_with (n == length args) tx is
+  begins_by : (marked looks : Bool) (n tx : ℕ)
+      → BeginsBy marked looks n image worker tx args x lines y → count y ≡ count x
+  begins_by true looks n tx is = same x y is.1
+  begins_by false looks n tx is = begins_with (n == length args) looks tx is
 
 module _ (program : Program) (worker : ℕ) (x : Scene) (lines : List WorkersLine) (y : Scene) where
   begins_to : (o : Option ℕ) (tx : ℕ) (args : List ℤ)
       → BeginsTo o program worker tx args x lines y → count y ≡ count x
   begins_to None tx args is = same x y is.1
   begins_to (Some n) tx args is =
-      begins_by program.image worker args x lines y (rolls_back_of program tx) n tx is
+      begins_by program.image worker args x lines y (rolls_back_of program tx)
+      (looks_of program tx) n tx is
 
   begins_named : (o : Option ℕ) (args : List ℤ) → BeginsNamed o program worker args x lines y
       → count y ≡ count x
@@ -84,14 +87,14 @@ after : (over : Bool) (z : Scene) (rest : List WorkersLine) (y : Scene)
 after true z rest y ends goes = same z y (ends refl).1
 after false z rest y ends goes = goes refl
 
-module _ (image : Image) where
+module _ (program : Program) where
   turn_for : (o : Option Task) (worker : ℕ) (a : TurnAnswer) (x y : Scene)
-      → TurnFor o image worker a x y → count y ≡ count x
+      → TurnFor o program.image worker a x y → count y ≡ count x
   turn_for None worker a x y is = same x y is.1
   turn_for (Some t) worker a x y is = is.1
 
   turn_list : (workers : List ℕ) (x : Scene) (lines : List WorkersLine) (y : Scene)
-      → TurnList image workers x lines y → count y ≡ count x
+      → TurnList program workers x lines y → count y ≡ count x
   turn_list [] x lines y is = same x y is.1
   turn_list (worker ∷ workers) x lines y is =
       after is.2.workers.down is.2 is.1 y is.5.0
@@ -99,18 +102,18 @@ module _ (image : Image) where
       ∙ turn_for (task_at x.workers.tasks worker) worker is.3.0 x is.2 is.3.1
 
   turns_known : (o : Option ℕ) (workers : List ℕ) (x : Scene) (lines : List WorkersLine)
-      (y : Scene) → TurnsKnown o image workers x lines y → count y ≡ count x
+      (y : Scene) → TurnsKnown o program workers x lines y → count y ≡ count x
   turns_known (Some worker) workers x lines y is = same x y is.1
   turns_known None workers x lines y is = turn_list workers x lines y is
 
   turns_given : (down : Bool) (workers : List ℕ) (x : Scene) (lines : List WorkersLine)
-      (y : Scene) → TurnsGiven down image workers x lines y → count y ≡ count x
+      (y : Scene) → TurnsGiven down program workers x lines y → count y ≡ count x
   turns_given true workers x lines y is = same x y is.1
   turns_given false workers x lines y is =
       turns_known (stranger_in (count x) workers) workers x lines y is
 
   finishes : (down : Bool) (x : Scene) (lines : List WorkersLine) (y : Scene)
-      → FinishesAll down image x lines y → count y ≡ count x
+      → FinishesAll down program x lines y → count y ≡ count x
   finishes true x lines y is = same x y is.1
   finishes false x lines y is = turn_list (rounds_of is.0 (count x)) x lines y is.1
 
@@ -142,9 +145,9 @@ command_count program (command.Start worker name args) x lines y is =
     starts program worker x lines y (refusal_at program.image x.workers worker x.device) name args
     is
 command_count program (command.Turn workers) x lines y is =
-    turns_given program.image x.workers.down workers x lines y is
+    turns_given program x.workers.down workers x lines y is
 command_count program command.Finish x lines y is =
-    finishes program.image x.workers.down x lines y is
+    finishes program x.workers.down x lines y is
 command_count program (command.Stop left) x lines y is = ap (λ (z : Scene). count z) is.1
 command_count program (command.Fault at) x lines y is = ap (λ (z : Scene). count z) is.1
 command_count program (command.Power choice) x lines y is =

@@ -20,7 +20,8 @@ use Rattle.cnvm_session.specs.declared.answer.Answer.TheVariants as answer
 use Rattle.cnvm_session.specs.declared.program.Program.{Program}
 use Rattle.cnvm_session.specs.Commands.{call_number, tx_parameters, fallen}
 use Rattle.cnvm_session.specs.Outcomes.{answer_of_recovery}
-use Rattle.cnvm_session.specs.Marks.{rolls_back_of, policy_of, owes_marked}
+use Rattle.cnvm_session.specs.Marks.{rolls_back_of, looks_of, policy_of, owes_marked}
+use Rattle.cnvm_session.specs.Marks.{owes_unsigned}
 use Rattle.cnvm_session.proofs.Recoveries.{recovery_counts}
 use Rattle.workers_script.specs.declared.command.WorkersCommand.TheVariants as command
 use Rattle.workers_session.specs.declared.line.WorkersLine.{WorkersLine}
@@ -29,11 +30,12 @@ use Rattle.workers_session.specs.WorkersState.{WorkersState, busy_line, marked_l
 use Rattle.workers_session.specs.WorkersState.{refused_first, refusal_at, stranger_in}
 use Rattle.workers_session.specs.WorkersCommands.{Scene, RefusedWith, Unchanged, RunsOut, Starts}
 use Rattle.workers_session.specs.WorkersCommands.{BeginsNamed, BeginsTo, BeginsBy, BeginsWith}
-use Rattle.workers_session.specs.WorkersCommands.{BeginsAs, ShowsWorker, last_text_line}
+use Rattle.workers_session.specs.WorkersCommands.{HasBegun, BeginsAs, ShowsWorker, last_text_line}
 use Rattle.workers_session.specs.WorkersCommands.{LastsWorker, stopped_lines, turn_lines, TurnFor}
 use Rattle.workers_session.specs.WorkersCommands.{TurnsOnce, TurnList, TurnsKnown, TurnsGiven}
 use Rattle.workers_session.specs.WorkersCommands.{rounds_of, FinishesAll, ends_power, RecoversFrom}
 use Rattle.workers_session.specs.WorkersCommands.{PowersAll, cut_scene, compartment_of}
+use Rattle.workers_session.specs.WorkersCommands.{task_unsigned}
 use Rattle.workers_source_law.specs.FaultsTold.{is_fault, names_fault, TellsFault, BlamesRightly}
 use Rattle.workers_source_law.specs.FaultsTold.{ToldFaultLaw, RunFaultLaw}
 
@@ -127,34 +129,41 @@ refusal_quiet image w worker d =
 
 module _ (image : Image) (worker : ℕ) (args : List ℤ) (x : Scene) (lines : List WorkersLine)
     (y : Scene) where
-  begins_as : (s : Standing) (tx : ℕ) → BeginsAs s image worker tx args x lines y
+  has_begun : (looks : Bool) (tx : ℕ) → HasBegun looks image worker tx args x lines y
       → BlamesRightly x lines y
-  begins_as stands.Ready tx (inl begun) =
+  has_begun looks tx begun =
       still x lines (line.Started worker ∷ []) y begun.told
       (one_quiet (line.Started worker) refl)
       (ap (λ (d : Device). d.faults) begun.device)
-  begins_as stands.Ready tx (inr out) = runs_out x lines y out
-  begins_as stands.Numbers tx is =
+
+  begins_as : (s : Standing) (looks : Bool) (tx : ℕ)
+      → BeginsAs s looks image worker tx args x lines y → BlamesRightly x lines y
+  begins_as stands.Ready looks tx (inl begun) = has_begun looks tx begun
+  begins_as stands.Ready looks tx (inr out) = runs_out x lines y out
+  begins_as stands.Numbers true tx (inl begun) = has_begun true tx begun
+  begins_as stands.Numbers true tx (inr out) = runs_out x lines y out
+  begins_as stands.Numbers false tx is =
       refused (line.Plain answer.RefusedNumbers) x lines y refl is
-  begins_as (stands.Unusable kind) tx is = absurd is
-  begins_as stands.Off tx is = absurd is
+  begins_as (stands.Unusable kind) looks tx is = absurd is
+  begins_as stands.Off looks tx is = absurd is
 
-  begins_with : (b : Bool) (tx : ℕ) → BeginsWith b image worker tx args x lines y
+  begins_with : (b looks : Bool) (tx : ℕ) → BeginsWith b looks image worker tx args x lines y
       → BlamesRightly x lines y
-  begins_with true tx is = begins_as (standing_at image worker x.device) tx is
-  begins_with false tx is = refused (line.Plain answer.RefusedArity) x lines y refl is
+  begins_with true looks tx is = begins_as (standing_at image worker x.device) looks tx is
+  begins_with false looks tx is = refused (line.Plain answer.RefusedArity) x lines y refl is
 
-  begins_by : (marked : Bool) (count tx : ℕ) → BeginsBy marked count image worker tx args x lines y
-      → BlamesRightly x lines y
-  begins_by true count tx is = refused line.RefusedAbort x lines y refl is
-  begins_by false count tx is = begins_with (count == length args) tx is
+  begins_by : (marked looks : Bool) (count tx : ℕ)
+      → BeginsBy marked looks count image worker tx args x lines y → BlamesRightly x lines y
+  begins_by true looks count tx is = refused line.RefusedAbort x lines y refl is
+  begins_by false looks count tx is = begins_with (count == length args) looks tx is
 
 module _ (program : Program) (worker : ℕ) (x : Scene) (lines : List WorkersLine) (y : Scene) where
   begins_to : (o : Option ℕ) (tx : ℕ) (args : List ℤ)
       → BeginsTo o program worker tx args x lines y → BlamesRightly x lines y
   begins_to None tx args is = refused (line.Plain answer.RefusedUnknown) x lines y refl is
   begins_to (Some count) tx args is =
-      begins_by program.image worker args x lines y (rolls_back_of program tx) count tx is
+      begins_by program.image worker args x lines y (rolls_back_of program tx) (looks_of program tx)
+      count tx is
 
   begins_named : (o : Option ℕ) (args : List ℤ) → BeginsNamed o program worker args x lines y
       → BlamesRightly x lines y
@@ -189,54 +198,58 @@ stopped_quiet worker (Some t ∷ ts) (inl told) = both_ways false refl told
 stopped_quiet worker (Some t ∷ ts) (inr told) = stopped_quiet (suc worker) ts told
 
 -- the lines of a turn tell of a fault only where its answer does
-turn_told : (a : TurnAnswer) (worker : ℕ) (ts : Tasks) → TellsFault (turn_lines a worker ts)
-    → a ≡ turned.Failed
-turn_told turned.Idle worker ts told = absurd told
-turn_told turned.Went worker ts told = absurd told
-turn_told (turned.Done value logged) worker ts told =
-    absurd (one_quiet (line.Own worker (answer.Done value logged)) refl told)
-turn_told (turned.Trap kind) worker ts told =
+turn_told : (u : Bool) (a : TurnAnswer) (worker : ℕ) (ts : Tasks)
+    → TellsFault (turn_lines u a worker ts) → a ≡ turned.Failed
+turn_told u turned.Idle worker ts told = absurd told
+turn_told u turned.Went worker ts told = absurd told
+turn_told u (turned.Done value logged) worker ts told =
+    absurd (one_quiet (line.Own worker (answer.Done value u logged)) refl told)
+turn_told u (turned.Trap kind) worker ts told =
     absurd (one_quiet (line.Own worker (answer.Trap kind)) refl told)
-turn_told turned.Off worker ts told = absurd (stopped_quiet 0 ts told)
-turn_told turned.Failed worker ts told = refl
-turn_told turned.NoMemory worker ts told =
+turn_told u (turned.Aborted kind) worker ts told =
+    absurd (one_quiet (line.Own worker (answer.Aborted kind)) refl told)
+turn_told u turned.Off worker ts told = absurd (stopped_quiet 0 ts told)
+turn_told u turned.Failed worker ts told = refl
+turn_told u turned.NoMemory worker ts told =
     absurd (one_quiet (line.Plain answer.NoMemory) refl told)
 
 -- the line of a recovery tells of a fault only where its answer does
-recovery_told : (a : RecoverAnswer) → is_fault (answer_of_recovery a) ≡ true
+recovery_told : (u : Bool) (a : RecoverAnswer) → is_fault (answer_of_recovery u a) ≡ true
     → a ≡ recovered.Failed
-recovery_told recovered.Clean told = absurd (both_ways false refl told)
-recovery_told (recovered.Redone value logged) told = absurd (both_ways false refl told)
-recovery_told (recovered.Trap kind) told = absurd (both_ways false refl told)
-recovery_told (recovered.Aborted kind) told = absurd (both_ways false refl told)
-recovery_told (recovered.Unusable kind) told = absurd (both_ways false refl told)
-recovery_told recovered.Numbers told = absurd (both_ways false refl told)
-recovery_told (recovered.Off phase) told = absurd (both_ways false refl told)
-recovery_told recovered.Failed told = refl
-recovery_told recovered.NoMemory told = absurd (both_ways false refl told)
+recovery_told u recovered.Clean told = absurd (both_ways false refl told)
+recovery_told u (recovered.Redone value logged) told = absurd (both_ways false refl told)
+recovery_told u (recovered.Trap kind) told = absurd (both_ways false refl told)
+recovery_told u (recovered.Aborted kind) told = absurd (both_ways false refl told)
+recovery_told u (recovered.Unusable kind) told = absurd (both_ways false refl told)
+recovery_told u recovered.Numbers told = absurd (both_ways false refl told)
+recovery_told u (recovered.Off phase) told = absurd (both_ways false refl told)
+recovery_told u recovered.Failed told = refl
+recovery_told u recovered.NoMemory told = absurd (both_ways false refl told)
 
-module _ (image : Image) where
-  turn_for : (o : Option Task) (worker : ℕ) (a : TurnAnswer) (x y : Scene)
-      (lines : List WorkersLine) → TurnFor o image worker a x y
-      → lines ≡ turn_lines a worker y.workers.tasks → BlamesRightly x lines y
-  turn_for None worker a x y lines is are =
+module _ (program : Program) where
+  turn_for : (u : Bool) (o : Option Task) (worker : ℕ) (a : TurnAnswer) (x y : Scene)
+      (lines : List WorkersLine) → TurnFor o program.image worker a x y
+      → lines ≡ turn_lines u a worker y.workers.tasks → BlamesRightly x lines y
+  turn_for u None worker a x y lines is are =
       still x lines [] y
-      (are ∙ ap (λ (b : TurnAnswer). turn_lines b worker y.workers.tasks) is.0) (λ none. none)
+      (are ∙ ap (λ (b : TurnAnswer). turn_lines u b worker y.workers.tasks) is.0) (λ none. none)
       (ap (λ (s : Scene). s.device.faults) is.1)
-  turn_for (Some t) worker a x y lines is are =
-      let rose = turn_faults a image is.0.task (task_at y.workers.tasks worker)
-      (compartment image worker x.device) (compartment image worker y.device) is.0.turned in (
+  turn_for u (Some t) worker a x y lines is are =
+      let rose = turn_faults a program.image is.0.task (task_at y.workers.tasks worker)
+      (compartment program.image worker x.device) (compartment program.image worker y.device)
+      is.0.turned in (
         rose.0,
-        λ tells. rose.1 (turn_told a worker y.workers.tasks (subst TellsFault are tells)),
+        λ tells. rose.1 (turn_told u a worker y.workers.tasks (subst TellsFault are tells)),
       )
 
   turns_once : (worker : ℕ) (x : Scene) (lines : List WorkersLine) (y : Scene)
-      → TurnsOnce image worker x lines y → BlamesRightly x lines y
+      → TurnsOnce program worker x lines y → BlamesRightly x lines y
   turns_once worker x lines y is =
-      turn_for (task_at x.workers.tasks worker) worker is.0 x y lines is.1 is.2
+      turn_for (task_unsigned program (task_at x.workers.tasks worker))
+      (task_at x.workers.tasks worker) worker is.0 x y lines is.1 is.2
 
   turn_list : (workers : List ℕ) (x : Scene) (lines : List WorkersLine) (y : Scene)
-      → TurnList image workers x lines y → BlamesRightly x lines y
+      → TurnList program workers x lines y → BlamesRightly x lines y
   turn_list [] x lines y is = unchanged x [] lines y (λ none. none) is
   turn_list (worker ∷ workers) x lines y is =
       joined x is.2 y is.0 is.1 lines (turns_once worker x is.0 is.2 is.3)
@@ -244,20 +257,20 @@ module _ (image : Image) where
       (λ up. turn_list workers is.2 is.1 y (is.5.1 up))) is.4
 
   turns_known : (o : Option ℕ) (workers : List ℕ) (x : Scene) (lines : List WorkersLine)
-      (y : Scene) → TurnsKnown o image workers x lines y → BlamesRightly x lines y
+      (y : Scene) → TurnsKnown o program workers x lines y → BlamesRightly x lines y
   turns_known (Some worker) workers x lines y is =
       refused (line.RefusedWorker worker) x lines y refl is
   turns_known None workers x lines y is = turn_list workers x lines y is
 
   turns_given : (down : Bool) (workers : List ℕ) (x : Scene) (lines : List WorkersLine)
-      (y : Scene) → TurnsGiven down image workers x lines y → BlamesRightly x lines y
+      (y : Scene) → TurnsGiven down program workers x lines y → BlamesRightly x lines y
   turns_given true workers x lines y is =
       refused (line.Plain answer.RefusedDown) x lines y refl is
   turns_given false workers x lines y is =
       turns_known (stranger_in (length x.workers.tasks) workers) workers x lines y is
 
   finishes : (down : Bool) (x : Scene) (lines : List WorkersLine) (y : Scene)
-      → FinishesAll down image x lines y → BlamesRightly x lines y
+      → FinishesAll down program x lines y → BlamesRightly x lines y
   finishes true x lines y is =
       refused (line.Plain answer.RefusedDown) x lines y refl is
   finishes false x lines y is =
@@ -269,13 +282,14 @@ module _ (program : Program) where
   recovers zero worker x lines y is = unchanged x [] lines y (λ none. none) is
   recovers (suc n) worker x lines y is =
       let policy = policy_of (owes_marked program (compartment_of program worker x)) in
-      let counts = recovery_counts is.0 policy program.image (compartment_of program worker x)
+      let typed = owes_unsigned program (compartment_of program worker x) in
+      let counts = recovery_counts typed is.0 policy program.image (compartment_of program worker x)
       (compartment_of program worker is.2) x.steps is.2.steps is.3.recovered in
-      joined x is.2 y (line.Own worker (answer_of_recovery is.0) ∷ []) is.1 lines (
+      joined x is.2 y (line.Own worker (answer_of_recovery typed is.0) ∷ []) is.1 lines (
         counts.0,
         λ told.
-            counts.1 (ap answer_of_recovery
-            (recovery_told is.0 (⊎_elim (λ here. here) (λ none. absurd none) told))),
+            counts.1 (ap (answer_of_recovery typed)
+            (recovery_told typed is.0 (⊎_elim (λ here. here) (λ none. absurd none) told))),
       )
       (after (ends_power is.0) is.2 is.1 y is.5.0
       (λ on. recovers n (suc worker) is.2 is.1 y (is.5.1 on))) is.4
@@ -299,9 +313,9 @@ told_fault program (command.Start worker name args) x y lines is =
     starts program worker x lines y (refusal_at program.image x.workers worker x.device) name args
     (refusal_quiet program.image x.workers worker x.device) is
 told_fault program (command.Turn workers) x y lines is =
-    turns_given program.image x.workers.down workers x lines y is
+    turns_given program x.workers.down workers x lines y is
 told_fault program command.Finish x y lines is =
-    finishes program.image x.workers.down x lines y is
+    finishes program x.workers.down x lines y is
 told_fault program (command.Stop left) x y lines is =
     still x lines [] y is.0 (λ none. none) (ap (λ (s : Scene). s.device.faults) is.1)
 told_fault program (command.Fault at) x y lines is =

@@ -5,7 +5,6 @@ use Rattle.std.specs.List.{AllByRecursion}
 use Rattle.cache_model.specs.Collapse.{bad}
 use Rattle.cache_model.specs.declared.choice.Choice.{Choice}
 use Rattle.pmem.specs.Device.{memory_of}
-use Rattle.pm_machine.specs.declared.image.Image.{Image}
 use Rattle.recovery.specs.declared.answer.RecoverAnswer.{RecoverAnswer}
 use Rattle.recovery.specs.declared.answer.RecoverAnswer.TheVariants as recovered
 use Rattle.pool_workers.specs.declared.answer.TurnAnswer.{TurnAnswer}
@@ -62,15 +61,16 @@ module _ (count : ℕ) where
   stopped_of_turns worker (None ∷ ts) = stopped_of_turns (suc worker) ts
   stopped_of_turns worker (Some t ∷ ts) = (tt, stopped_of_turns (suc worker) ts)
 
-  lines_of_turn : (a : TurnAnswer) (worker : ℕ) (ts : Tasks)
-      → AreOfTurns count (turn_lines a worker ts)
-  lines_of_turn turned.Idle worker ts = tt
-  lines_of_turn turned.Went worker ts = tt
-  lines_of_turn (turned.Done value logged) worker ts = (tt, tt)
-  lines_of_turn (turned.Trap kind) worker ts = (tt, tt)
-  lines_of_turn turned.Off worker ts = stopped_of_turns 0 ts
-  lines_of_turn turned.Failed worker ts = (tt, tt)
-  lines_of_turn turned.NoMemory worker ts = (tt, tt)
+  lines_of_turn : (u : Bool) (a : TurnAnswer) (worker : ℕ) (ts : Tasks)
+      → AreOfTurns count (turn_lines u a worker ts)
+  lines_of_turn u turned.Idle worker ts = tt
+  lines_of_turn u turned.Went worker ts = tt
+  lines_of_turn u (turned.Done value logged) worker ts = (tt, tt)
+  lines_of_turn u (turned.Trap kind) worker ts = (tt, tt)
+  lines_of_turn u (turned.Aborted kind) worker ts = (tt, tt)
+  lines_of_turn u turned.Off worker ts = stopped_of_turns 0 ts
+  lines_of_turn u turned.Failed worker ts = (tt, tt)
+  lines_of_turn u turned.NoMemory worker ts = (tt, tt)
 
   no_lines : (lines : List WorkersLine) → lines ≡ [] → AreOfTurns count lines
   no_lines lines is = subst (AreOfTurns count) (sym is) tt
@@ -82,18 +82,18 @@ module _ (count : ℕ) where
   after true z rest y ends goes = no_lines rest (ends refl).0
   after false z rest y ends goes = goes refl
 
-  turn_list : (parts : Image) (workers : List ℕ) (x : Scene) (lines : List WorkersLine)
-      (y : Scene) → TurnList parts workers x lines y → AreOfTurns count lines
-  turn_list parts [] x lines y is = no_lines lines is.0
-  turn_list parts (worker ∷ workers) x lines y is =
+  turn_list : (program : Program) (workers : List ℕ) (x : Scene) (lines : List WorkersLine)
+      (y : Scene) → TurnList program workers x lines y → AreOfTurns count lines
+  turn_list program [] x lines y is = no_lines lines is.0
+  turn_list program (worker ∷ workers) x lines y is =
       let first : AreOfTurns count is.0 =
-      subst (AreOfTurns count) (sym is.3.2) (lines_of_turn is.3.0 worker is.2.workers.tasks) in
+      subst (AreOfTurns count) (sym is.3.2) (lines_of_turn _ is.3.0 worker is.2.workers.tasks) in
       subst (AreOfTurns count) (sym is.4)
       (turns_append is.0 is.1 first
       (after is.2.workers.down is.2 is.1 y is.5.0
-      (λ up. turn_list parts workers is.2 is.1 y (is.5.1 up))))
+      (λ up. turn_list program workers is.2 is.1 y (is.5.1 up))))
 
-module _ (parts : Image) (x : Scene) (lines : List WorkersLine) (y : Scene) where
+module _ (program : Program) (x : Scene) (lines : List WorkersLine) (y : Scene) where
   abbrev count : ℕ
   count = length x.workers.tasks
 
@@ -101,19 +101,19 @@ module _ (parts : Image) (x : Scene) (lines : List WorkersLine) (y : Scene) wher
   plain l is fits = subst (AreOfTurns count) (sym is) (fits, tt)
 
   turns_known : (o : Option ℕ) (workers : List ℕ) → stranger_in count workers ≡ o
-      → TurnsKnown o parts workers x lines y → AreOfTurns count lines
+      → TurnsKnown o program workers x lines y → AreOfTurns count lines
   turns_known (Some w) workers known is =
       plain (line.RefusedWorker w) is.0 (stranger count w workers known)
-  turns_known None workers known is = turn_list count parts workers x lines y is
+  turns_known None workers known is = turn_list count program workers x lines y is
 
-  pub turns_say : (down : Bool) (workers : List ℕ) → TurnsGiven down parts workers x lines y
+  pub turns_say : (down : Bool) (workers : List ℕ) → TurnsGiven down program workers x lines y
       → AreOfTurns count lines
   turns_say true workers is = plain (line.Plain answer.RefusedDown) is.0 tt
   turns_say false workers is = turns_known (stranger_in count workers) workers refl is
 
-  pub finish_says : (down : Bool) → FinishesAll down parts x lines y → AreOfTurns count lines
+  pub finish_says : (down : Bool) → FinishesAll down program x lines y → AreOfTurns count lines
   finish_says true is = plain (line.Plain answer.RefusedDown) is.0 tt
-  finish_says false is = turn_list count parts (rounds_of is.0 count) x lines y is.1
+  finish_says false is = turn_list count program (rounds_of is.0 count) x lines y is.1
 
 -- recoveries
 
@@ -129,16 +129,16 @@ NamesNoPick l = Unit {0}
 abbrev pub NameNoPick : List WorkersLine → Type 0
 NameNoPick lines = AllByRecursion NamesNoPick lines
 
-recovery_no_pick : (a : RecoverAnswer) → IsNoPick (answer_of_recovery a)
-recovery_no_pick recovered.Clean = tt
-recovery_no_pick (recovered.Redone value logged) = tt
-recovery_no_pick (recovered.Trap kind) = tt
-recovery_no_pick (recovered.Aborted kind) = tt
-recovery_no_pick (recovered.Unusable kind) = tt
-recovery_no_pick recovered.Numbers = tt
-recovery_no_pick (recovered.Off phase) = tt
-recovery_no_pick recovered.Failed = tt
-recovery_no_pick recovered.NoMemory = tt
+recovery_no_pick : (u : Bool) (a : RecoverAnswer) → IsNoPick (answer_of_recovery u a)
+recovery_no_pick u recovered.Clean = tt
+recovery_no_pick u (recovered.Redone value logged) = tt
+recovery_no_pick u (recovered.Trap kind) = tt
+recovery_no_pick u (recovered.Aborted kind) = tt
+recovery_no_pick u (recovered.Unusable kind) = tt
+recovery_no_pick u recovered.Numbers = tt
+recovery_no_pick u (recovered.Off phase) = tt
+recovery_no_pick u recovered.Failed = tt
+recovery_no_pick u recovered.NoMemory = tt
 
 no_more : (over : Bool) (z : Scene) (rest : List WorkersLine) (y : Scene)
     → (over ≡ true → Unchanged [] z rest y) → (over ≡ false → NameNoPick rest) → NameNoPick rest
@@ -151,7 +151,7 @@ module _ (program : Program) where
   recovers zero worker x lines y is = subst NameNoPick (sym is.0) tt
   recovers (suc n) worker x lines y is =
       subst NameNoPick (sym is.4) (
-        recovery_no_pick is.0,
+        recovery_no_pick _ is.0,
         no_more (ends_power is.0) is.2 is.1 y is.5.0
             (λ on. recovers n (suc worker) is.2 is.1 y (is.5.1 on)),
       )

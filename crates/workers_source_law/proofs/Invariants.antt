@@ -25,14 +25,14 @@ use Rattle.session_law.proofs.Resting.{resting_owes}
 use Rattle.workers_source_law.specs.States.{States, RestStays}
 use Rattle.workers_source_law.proofs.Stills.{still, own, fewer_fenced, marks_fenced, rest_fenced}
 use Rattle.workers_source_law.proofs.Stills.{fewer_held}
-use Rattle.workers_source_law.proofs.AtWork.{IsAtWork, work_fenced}
+use Rattle.workers_source_law.proofs.AtLook.{IsBusyIn, busy_fenced}
 
 -- while the workers aren't down
 abbrev pub UpAs : Standing → Program → Words → Option Task → Cache → SourceState → Type 0
 UpAs Ready program super o c s = (o ≡ None) × IsResting program super (still c) s
 UpAs (Down None) program super o c s = ⊥
 UpAs (Down (Some call)) program super o c s =
-    (t : Task) × (o ≡ Some t) × IsAtWork program super call t c s
+    (t : Task) × (o ≡ Some t) × IsBusyIn program super call t c s
 UpAs (Unusable kind) program super o c s = o ≡ None
 
 -- a worker with this task and the cache of its compartment, in this state
@@ -67,7 +67,7 @@ module _ (program : Program) (super : Words) where
   up_fenced Ready o k c s up = (up.0, rest_fenced program super k c s up.1)
   up_fenced (Down None) o k c s up = up
   up_fenced (Down (Some call)) o k c s up =
-      (up.0, up.1, work_fenced program super call s up.0 k c up.2)
+      (up.0, up.1, busy_fenced program super call up.0 s k c up.2)
   up_fenced (Unusable kind) o k c s up = up
 
   pub stands_fenced : (down : Bool) (o : Option Task) (k : Bool) (c : Cache) (s : SourceState)
@@ -97,7 +97,7 @@ module _ (program : Program) (super : Words) where
   pub record AtCall (t : Task) (c : Cache) (s : SourceState) : Type 0 where
     pub call : Pending
     pub standing : s.standing ≡ Down (Some call)
-    pub work : IsAtWork program super call t c s
+    pub busy : IsBusyIn program super call t c s
 
   pub busy_at : (o : Option Task) (t : Task) (c : Cache) (s : SourceState)
       → Stands program super false o c s → o ≡ Some t → AtCall t c s
@@ -109,7 +109,7 @@ module _ (program : Program) (super : Words) where
       go (Down (Some call)) standing up = record {
         call = call;
         standing = standing;
-        work = subst (λ (u : Task). IsAtWork program super call u c s)
+        busy = subst (λ (u : Task). IsBusyIn program super call u c s)
             (let same = sym up.1 ∙ busy in cc) up.2;
       }
       go (Unusable kind) standing up = let no = sym up ∙ busy in absurd cc
@@ -118,7 +118,7 @@ module _ (program : Program) (super : Words) where
   pub stands_work : (call : Pending) (down : Bool) (o : Option Task) (c : Cache) (s : SourceState)
       → s.standing ≡ Down (Some call) → AreMarked c → OwesBy false program super call (still c) s
       → rolls_back_of program call.tx ≡ false
-      → (down ≡ false → (t : Task) × (o ≡ Some t) × IsAtWork program super call t c s)
+      → (down ≡ false → (t : Task) × (o ≡ Some t) × IsBusyIn program super call t c s)
       → Stands program super down o c s
   stands_work call down o c s standing marked owes plain up = record {
     marked = marked;

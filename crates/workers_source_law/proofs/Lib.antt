@@ -1,6 +1,7 @@
 pub mod Stills
 pub mod Phases
 pub mod AtWork
+pub mod AtLook
 pub mod Invariants
 pub mod Turns
 pub mod Recoveries

@@ -1,6 +1,7 @@
 -- What a worker's chain finishes: each transaction that it began at most once, in order.
 use Rattle.std.proofs.Common.{◌≡◌, inl, inr, ℕ, suc, false, List, [], ◌∷◌, ◌++◌, Option, Some, None}
-use Rattle.std.proofs.Common.{length, ◌<◌, ℤ, refl, sym, ap, ◌∙◌, subst, arith, Bool}
+use Rattle.std.proofs.Common.{length, ◌<◌, ℤ, refl, sym, ap, ◌∙◌, subst, arith, Bool, true}
+use Rattle.std.proofs.Common.{if◌then◌else◌}
 use Rattle.cache_model.specs.Cache.{Words}
 use Rattle.pool_map.specs.PoolMap.{PoolMap}
 use Rattle.pool_workers.specs.Crew.{task_at}
@@ -8,25 +9,25 @@ use Rattle.cnvm_session.specs.declared.answer.Answer.{Answer}
 use Rattle.cnvm_session.specs.declared.answer.Answer.TheVariants as answer
 use Rattle.cnvm_session.specs.declared.program.Program.{Program}
 use Rattle.cnvm_session.specs.Commands.{call_number}
-use Rattle.cnvm_session.specs.Marks.{rolls_back_of}
+use Rattle.cnvm_session.specs.Marks.{rolls_back_of, looks_of}
 use Rattle.workers_script.specs.declared.command.WorkersCommand.{WorkersCommand}
 use Rattle.session_law.specs.State.{Pending, Standing, Ready, Down, Unusable, SourceState}
 use Rattle.session_law.specs.State.{standing_as, created}
 use Rattle.session_law.specs.Answers.{Powers}
-use Rattle.session_law.specs.History.{GivesPool, LeadsTo, waiting_of, call_to, called_by}
+use Rattle.session_law.specs.History.{GivesPool, LeadsTo, waiting_of, call_to, counted, called_by}
 use Rattle.session_law.specs.History.{recovered_by, IsPart, HasDone}
 use Rattle.session_law.proofs.Histories.{part_none, part_same, part_append, both, same_done}
 use Rattle.session_law.proofs.Histories.{powers_done}
 use Rattle.session_law.proofs.Running.{told_of}
-use Rattle.workers_source_law.specs.Lines.{Ends}
+use Rattle.workers_source_law.specs.Lines.{IsEndedWith, Ends}
 use Rattle.workers_source_law.specs.Law.{Instant, AllHold, WorkerHolds, RanWorkers, first_instant}
 use Rattle.workers_source_law.specs.Law.{last_instant}
 use Rattle.workers_source_law.specs.Alone.{OwnEvent, Began, Ended, Recovered, Told, Busy, Barred}
 use Rattle.workers_source_law.specs.Alone.{RecoversAlone, Stray, AloneStep, AloneChain}
 use Rattle.workers_source_law.specs.Alone.{own_events_in}
-use Rattle.workers_source_law.specs.OwnHistory.{begun_by, begun_in, own_finished, history_of}
-use Rattle.workers_source_law.specs.OwnHistory.{answered_from, OwnSealedLaw, OwnHistoryLaw}
-use Rattle.workers_source_law.specs.OwnHistory.{OwnPoolLaw, AloneNewLaw}
+use Rattle.workers_source_law.specs.OwnHistory.{begun_by, begun_in, storing, own_finished}
+use Rattle.workers_source_law.specs.OwnHistory.{history_of, answered_from, OwnSealedLaw}
+use Rattle.workers_source_law.specs.OwnHistory.{OwnHistoryLaw, OwnPoolLaw, AloneNewLaw}
 use Rattle.workers_source_law.proofs.Alones.{still_less, run_alone}
 use Rattle.workers_source_law.proofs.Runs.{count_new}
 
@@ -75,9 +76,10 @@ module _ (program : Program) where
       subst (λ (u : SourceState). HasDone program s u [] calls) (sym is)
       (record { pool = refl; count = omega arith; part = part })
 
-  -- a transaction that it owes is this one
+  -- a transaction that it owes is this one, unless that only looks
   abbrev Owing : List Pending → SourceState → Type 0
-  Owing owed s = (call : Pending) → s.standing ≡ Down (Some call) → owed ≡ call ∷ []
+  Owing owed s =
+      (call : Pending) → s.standing ≡ Down (Some call) → owed ≡ storing program (call ∷ [])
 
   -- the end of an owed transaction
 
@@ -85,10 +87,17 @@ module _ (program : Program) where
     waits : waiting_of s.standing ≡ call ∷ []
     waits = ap waiting_of at
 
-    done_one : (value : ℤ) (logged : ℕ) → rolls_back_of program call.tx ≡ false
-        → Ends program call (answer.Done value logged) s t
+    -- whether it only looks
+    stored : (looks : Bool) → looks_of program call.tx ≡ looks
+        → storing program (waiting_of s.standing) ≡ (if looks then [] else call ∷ [])
+    stored looks is =
+        ap (storing program) waits ∙ ap (λ (b : Bool). if b then [] else call ∷ []) is
+
+    done_one : (value : ℤ) (unsigned : Bool) (logged : ℕ)
+        → rolls_back_of program call.tx ≡ false
+        → IsEndedWith false program call value unsigned logged s t
         → HasDone program s t (waiting_of s.standing) []
-    done_one value logged plain is =
+    done_one value unsigned logged plain is =
         let more : t.done ≡ suc s.done = ap (λ (u : SourceState). u.done) is.2 in
         let ready : t.standing ≡ Ready = ap (λ (u : SourceState). u.standing) is.2 in
         let gives : GivesPool (rolls_back_of program call.tx) program call s.pool is.0 =
@@ -104,18 +113,36 @@ module _ (program : Program) where
               (part_same (call ∷ [])));
         })
 
+    -- nothing is done, and it takes calls again
+    none_done : t ≡ standing_as Ready s → HasDone program s t [] []
+    none_done is = only_standing s t Ready [] is (part_none (waiting_of s.standing ++ []))
+
+    done_as : (looks : Bool) → looks_of program call.tx ≡ looks → (value : ℤ) (unsigned : Bool)
+        (logged : ℕ) → rolls_back_of program call.tx ≡ false
+        → IsEndedWith looks program call value unsigned logged s t
+        → HasDone program s t (storing program (waiting_of s.standing)) []
+    done_as true kind value unsigned logged plain is =
+        subst (λ (calls : List Pending). HasDone program s t calls []) (sym (stored true kind))
+        (none_done is.2)
+    done_as false kind value unsigned logged plain is =
+        subst (λ (calls : List Pending). HasDone program s t calls [])
+        (waits ∙ sym (stored false kind)) (done_one value unsigned logged plain is)
+
     ends_done : (a : Answer) → rolls_back_of program call.tx ≡ false → Ends program call a s t
-        → HasDone program s t (called_by (waiting_of s.standing) a) []
-    ends_done (answer.Done value logged) plain is = done_one value logged plain is
+        → HasDone program s t (called_by (storing program (waiting_of s.standing)) a) []
+    ends_done (answer.Done value unsigned logged) plain is =
+        done_as (looks_of program call.tx) refl value unsigned logged plain is
     ends_done (answer.Trap kind) plain is =
         only_standing s t (Unusable kind) [] is.1
         (part_none (waiting_of s.standing ++ []))
+    ends_done (answer.Aborted kind) plain is =
+        subst (λ (calls : List Pending). HasDone program s t calls []) (sym (stored true is.0))
+        (none_done is.1.1)
     ends_done (answer.Stopped p) plain is = same_done program s t [] is
     ends_done answer.Silent plain is = absurd is
-    ends_done (answer.Aborted kind) plain is = absurd is
     ends_done answer.DeviceFault plain is = absurd is
     ends_done answer.RecoveredNone plain is = absurd is
-    ends_done (answer.RecoveredRedone value logged) plain is = absurd is
+    ends_done (answer.RecoveredRedone value unsigned logged) plain is = absurd is
     ends_done (answer.RecoveredTrap kind) plain is = absurd is
     ends_done (answer.RecoveredAborted kind) plain is = absurd is
     ends_done (answer.Shown text) plain is = absurd is
@@ -143,7 +170,7 @@ module _ (program : Program) where
       subst (λ (p : Option ℕ). HasDone program s t [] (call_to p args)) (sym named) is
 
   step_done : (e : OwnEvent) (s t : SourceState) → OwesPlain s → AloneStep program e s t
-      → HasDone program s t (own_finished s e) (begun_by program e)
+      → HasDone program s t (own_finished program s e) (begun_by program e)
   step_done (Began name args) s t plain is =
       let call : Pending = record { tx = is.tx; args = args } in
       begun_done is.tx (call_number program name) args s t is.named
@@ -160,15 +187,15 @@ module _ (program : Program) where
 
   -- what it owes afterwards it owed before, unless it began it
   module _ (e : OwnEvent) (s t : SourceState) (none : begun_by program e ≡ [])
-      (done : HasDone program s t (own_finished s e) (begun_by program e)) where
+      (done : HasDone program s t (own_finished program s e) (begun_by program e)) where
     still_owes : (call : Pending) → t.standing ≡ Down (Some call) → s.standing ≡ Down (Some call)
     still_owes call is =
-        still_owed s.standing (own_finished s e) call
+        still_owed s.standing (own_finished program s e) call
         (subst (λ (st : Standing).
-        IsPart (own_finished s e ++ waiting_of st) (waiting_of s.standing ++ [])) is
+        IsPart (own_finished program s e ++ waiting_of st) (waiting_of s.standing ++ [])) is
         (subst (λ (calls : List Pending).
-        IsPart (own_finished s e ++ waiting_of t.standing) (waiting_of s.standing ++ calls)) none
-        done.part))
+        IsPart (own_finished program s e ++ waiting_of t.standing)
+        (waiting_of s.standing ++ calls)) none done.part))
 
     still_plain : OwesPlain s → OwesPlain t
     still_plain plain call is = plain call (still_owes call is)
@@ -198,38 +225,48 @@ module _ (program : Program) where
       → HasDone program s t (history_of program events s t chain) (begun_in program events)
   chain_done [] s t chain plain = same_done program s t [] chain
   chain_done (e ∷ events) s t chain plain =
-      both program s chain.0 t (own_finished s e) (history_of program events chain.0 t chain.2)
-      (begun_by program e) (begun_in program events) (step_done e s chain.0 plain chain.1)
+      both program s chain.0 t (own_finished program s e)
+      (history_of program events chain.0 t chain.2) (begun_by program e) (begun_in program events)
+      (step_done e s chain.0 plain chain.1)
       (chain_done events chain.0 t chain.2 (step_plain e s chain.0 plain chain.1))
 
   -- those that were answered with a value are finished
 
+  by_kind : (tx : ℕ) (args : List ℤ) (looks : Bool) → call_to (if looks then None else Some tx) args
+      ≡ (if looks then [] else record { tx = tx; args = args } ∷ [])
+  by_kind tx args true = refl
+  by_kind tx args false = refl
+
   began_owing : (name : List ℕ) (args : List ℤ) (s t : SourceState)
       → AloneStep program (Began name args) s t
-      → Owing (call_to (call_number program name) args) t
+      → Owing (call_to (counted program (call_number program name)) args) t
   began_owing name args s t is call owed =
-      ap (λ (o : Option ℕ). call_to o args) is.named
-      ∙ ap (λ (c : Pending). c ∷ [])
+      ap (λ (o : Option ℕ). call_to (counted program o) args) is.named
+      ∙ by_kind is.tx args (looks_of program is.tx)
+      ∙ ap (λ (c : Pending). storing program (c ∷ []))
       (sym (same_call (record { tx = is.tx; args = args }) call
       (sym (ap (λ (u : SourceState). u.standing) is.owed) ∙ owed)))
 
   ended_part : (owed : List Pending) (a : Answer) (s t : SourceState) → Owing owed s
       → AloneStep program (Ended a) s t
-      → IsPart (called_by owed a) (called_by (waiting_of s.standing) a)
+      → IsPart (called_by owed a) (called_by (storing program (waiting_of s.standing)) a)
   ended_part owed a s t owing is =
       subst (λ (calls : List Pending). IsPart (called_by owed a) (called_by calls a))
-      (owing is.0 is.1 ∙ sym (ap waiting_of is.1)) (part_same (called_by owed a))
+      (owing is.0 is.1
+      ∙ sym (ap (λ (st : Standing). storing program (waiting_of st)) is.1))
+      (part_same (called_by owed a))
 
   chain_answered : (events : List OwnEvent) (owed : List Pending) (s t : SourceState)
       (chain : AloneChain program events s t) → OwesPlain s → Owing owed s
       → IsPart (answered_from program owed events) (history_of program events s t chain)
   chain_answered [] owed s t chain plain owing = refl
   chain_answered (Began name args ∷ events) owed s t chain plain owing =
-      chain_answered events (call_to (call_number program name) args) chain.0 t chain.2
+      chain_answered events (call_to (counted program (call_number program name)) args) chain.0 t
+      chain.2
       (step_plain (Began name args) s chain.0 plain chain.1)
       (began_owing name args s chain.0 chain.1)
   chain_answered (Ended a ∷ events) owed s t chain plain owing =
-      part_append (called_by owed a) (called_by (waiting_of s.standing) a)
+      part_append (called_by owed a) (called_by (storing program (waiting_of s.standing)) a)
       (answered_from program owed events) (history_of program events chain.0 t chain.2)
       (ended_part owed a s chain.0 owing chain.1)
       (chain_answered events owed chain.0 t chain.2

@@ -2,7 +2,7 @@
 use Rattle.std.proofs.Common.{◌≡◌, ◌⊎◌, inl, inr, ℕ, ◌<◌, Bool, true, false, ◌&&◌, nat_lt, ◌==◌}
 use Rattle.std.proofs.Common.{if◌then◌else◌, List, [], ◌∷◌, Option, None, Some, length, ℤ, pos}
 use Rattle.std.proofs.Common.{int_eq, refl, ap, subst, sym, ◌∙◌, arith}
-use Rattle.std.proofs.lemmas.Bool.{ltb-true, eqb-true}
+use Rattle.std.proofs.lemmas.Bool.{ltb-true}
 use Rattle.std.proofs.lemmas.Bool.Decides.{Decides-int_eq}
 use Rattle.cache_model.specs.Cache.{Words}
 use Rattle.pool_layout.specs.declared.places.TheConstants.{DONE, LAST, ATTEMPT, MARK}
@@ -25,8 +25,8 @@ use Rattle.workers_session.specs.declared.line.WorkersLine.{WorkersLine}
 use Rattle.workers_session.specs.declared.line.WorkersLine.TheVariants as line
 use Rattle.workers_session.specs.WorkersState.{busy_line, marked_line, refused_first, refusal_at}
 use Rattle.workers_session.specs.WorkersCommands.{Scene, Starts, BeginsNamed, BeginsTo, BeginsBy}
-use Rattle.workers_session.specs.WorkersCommands.{BeginsWith, BeginsAs, ShowsWorker, last_text_line}
-use Rattle.workers_session.specs.WorkersCommands.{LastsWorker}
+use Rattle.workers_session.specs.WorkersCommands.{HasBegun, RunsOut, BeginsWith, BeginsAs}
+use Rattle.workers_session.specs.WorkersCommands.{ShowsWorker, last_text_line, LastsWorker}
 use Rattle.session_law.specs.Source.{source_parameters}
 use Rattle.session_law.specs.Agrees.{Agrees}
 use Rattle.session_law.specs.State.{Standing, Ready, Down, Unusable, SourceState}
@@ -35,7 +35,7 @@ use Rattle.session_law.specs.Answers.{Lasts, Answers}
 use Rattle.session_law.proofs.Reading.{kind_read, is_marked}
 use Rattle.workers_source_law.specs.Lines.{worker_image, TellsState}
 use Rattle.workers_source_law.specs.Law.{Instant, WorkerHolds, AllHold}
-use Rattle.workers_source_law.specs.Alone.{IsBusy, IsBarred, RefusesLook}
+use Rattle.workers_source_law.specs.Alone.{IsBusy, IsBarred}
 
 -- what the standing of an image says of it
 
@@ -130,8 +130,6 @@ module _ (program : Program) (worker : ℕ) (x : Instant) where
   abbrev pub Tells : Command → Answer → Type 0
   Tells c answer.NoMemory = Unit {0}
   Tells c answer.RefusedDown = Unit {0}
-  Tells c answer.RefusedNumbers =
-      Answers program s image c answer.RefusedNumbers s ⊎ RefusesLook program image c s
   Tells c a = Answers program s image c a s
 
   -- what a line says of this worker, where its command is to start it, show it or tell its last
@@ -245,45 +243,33 @@ module _ (program : Program) (worker : ℕ) (x : Instant) where
               (sym (sym (agrees.parameters tx) ∙ takes))
               (subst (λ (b : Bool). CallsWith b program s image tx args a s) (sym fits) is))
 
-          -- the numbers are at their end, by whether the transaction only looks
-          numbers_say : (looks : Bool) (count : ℕ) → looks_of program tx ≡ looks
-              → at ≡ stands.Numbers → tx_parameters program.image tx ≡ Some count
-              → (count == length args) ≡ true
-              → Tells (session.Call name args) answer.RefusedNumbers
-          numbers_say false count stores is takes fits =
-              inl (calls_with count true answer.RefusedNumbers takes fits
-              (subst (λ (b : Bool). RunsAs b (rolls_back_of program tx) program s image tx args
-              answer.RefusedNumbers s) (sym stores) (numbers_of image is, refl)))
-          numbers_say true count looks is takes fits =
-              inr (record {
-                tx = tx;
-                named = named;
-                takes = sym (agrees.parameters tx) ∙ takes
-                    ∙ ap (λ (i : ℕ). Some i) (eqb-true count (length args) fits);
-                looks = looks;
-                ready = ready;
-                out = (numbers_of image is, refl);
-              })
+          begun_or : (looks : Bool) → HasBegun looks program.image worker tx args x.scene lines y
+              ⊎ RunsOut x.scene lines y → Started
+          begun_or looks (inl begun) = (line.Started worker, begun.told, tt)
+          begun_or looks (inr out) = (line.Plain answer.NoMemory, out.0, tt)
 
-          begins_as : (st : device.Standing) (count : ℕ) → at ≡ st
+          begins_as : (st : device.Standing) (looks : Bool) (count : ℕ)
+              → looks_of program tx ≡ looks → at ≡ st
               → tx_parameters program.image tx ≡ Some count → (count == length args) ≡ true
-              → BeginsAs st program.image worker tx args x.scene lines y → Started
-          begins_as stands.Ready count is takes fits (inl begun) =
-              (line.Started worker, begun.told, tt)
-          begins_as stands.Ready count is takes fits (inr out) =
-              (line.Plain answer.NoMemory, out.0, tt)
-          begins_as stands.Numbers count is takes fits begins = (
+              → BeginsAs st looks program.image worker tx args x.scene lines y → Started
+          begins_as stands.Ready looks count kind is takes fits begins = begun_or looks begins
+          begins_as stands.Numbers true count kind is takes fits begins = begun_or true begins
+          begins_as stands.Numbers false count stores is takes fits begins = (
             line.Plain answer.RefusedNumbers,
             begins.0,
-            numbers_say (looks_of program tx) count refl is takes fits,
+            calls_with count true answer.RefusedNumbers takes fits
+                (subst (λ (b : Bool). RunsAs b (rolls_back_of program tx) program s image tx args
+                answer.RefusedNumbers s) (sym stores) (numbers_of image is, refl)),
           )
-          begins_as (stands.Unusable kind) count is takes fits begins = absurd begins
-          begins_as stands.Off count is takes fits begins = absurd begins
+          begins_as (stands.Unusable why) looks count kind is takes fits begins = absurd begins
+          begins_as stands.Off looks count kind is takes fits begins = absurd begins
 
           begins_with : (count : ℕ) (same : Bool) → tx_parameters program.image tx ≡ Some count
               → (count == length args) ≡ same
-              → BeginsWith same program.image worker tx args x.scene lines y → Started
-          begins_with count true takes fits is = begins_as at count refl takes fits is
+              → BeginsWith same (looks_of program tx) program.image worker tx args x.scene lines y
+              → Started
+          begins_with count true takes fits is =
+              begins_as at (looks_of program tx) count refl refl takes fits is
           begins_with count false takes fits is = (
             line.Plain answer.RefusedArity,
             is.0,
@@ -292,7 +278,8 @@ module _ (program : Program) (worker : ℕ) (x : Instant) where
 
           begins_by : (marked : Bool) (count : ℕ) → rolls_back_of program tx ≡ marked
               → tx_parameters program.image tx ≡ Some count
-              → BeginsBy marked count program.image worker tx args x.scene lines y → Started
+              → BeginsBy marked (looks_of program tx) count program.image worker tx args x.scene
+              lines y → Started
           begins_by true count mark takes is =
               (line.RefusedAbort, is.0, (tx, named, mark, ready))
           begins_by false count mark takes is =

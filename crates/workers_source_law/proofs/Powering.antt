@@ -16,9 +16,10 @@ use Rattle.workers_law.specs.Fenced.{fenced_cache}
 use Rattle.workers_law.specs.Power.{picks_in}
 use Rattle.workers_law.proofs.Powers.{power, fenced}
 use Rattle.cnvm_session.specs.declared.answer.Answer.TheVariants as answer
+use Rattle.cnvm_session.specs.declared.answer.Answer.{Answer}
 use Rattle.cnvm_session.specs.declared.program.Program.{Program}
 use Rattle.cnvm_session.specs.Commands.{fallen}
-use Rattle.cnvm_session.specs.Marks.{policy_of, owes_marked}
+use Rattle.cnvm_session.specs.Marks.{policy_of, owes_marked, owes_unsigned}
 use Rattle.cnvm_session.specs.Outcomes.{answer_of_recovery}
 use Rattle.workers_session.specs.declared.line.WorkersLine.{WorkersLine}
 use Rattle.workers_session.specs.declared.line.WorkersLine.TheVariants as line
@@ -85,11 +86,15 @@ module _ (program : Program) (supers : ℕ → Words) where
       abbrev super : Words
       super = supers worker
 
+      abbrev its_answer : Answer
+      its_answer =
+          answer_of_recovery (owes_unsigned program (compartment program.image worker x.device)) a
+
       mine : IsLeft program super (own program worker x.device) (s worker)
       mine = half.left worker less (omega arith)
 
       given : (t : SourceState) × Powers program (s worker) (view (own program worker x.device))
-          (answer_of_recovery a) t
+          its_answer t
           × Stands program super (keeps_down a) None (own program worker z.device) t
       given = recovery_gives program super agrees (compartment program.image worker x.device)
           (compartment program.image worker z.device) (s worker) mine on a x.steps z.steps
@@ -104,11 +109,11 @@ module _ (program : Program) (supers : ℕ → Words) where
           (policy_of (owes_marked program (compartment program.image worker x.device)))
           program.image x.steps z.steps one.recovered).on
 
-      told : Powers program (s worker) (images worker) (answer_of_recovery a) (after_it worker)
+      told : Powers program (s worker) (images worker) its_answer (after_it worker)
       told =
           subst (λ (u : SourceState). Powers program (s worker) (images worker)
-          (answer_of_recovery a) u) (sym (changed_own worker given.0 s))
-          (subst (λ (v : Words). Powers program (s worker) v (answer_of_recovery a) given.0)
+          its_answer u) (sym (changed_own worker given.0 s))
+          (subst (λ (v : Words). Powers program (s worker) v its_answer given.0)
           (half.seen worker less (omega arith)) given.1)
 
       its_own : Stands program super z.workers.down (task_at z.workers.tasks worker)
@@ -222,7 +227,7 @@ module _ (program : Program) (supers : ℕ → Words) where
           more.0,
           subst (λ (ls : List WorkersLine). RecoveryLines program images worker ls s more.0)
               (sym is.4) (
-                answer_of_recovery a,
+                its_answer worker x z s a half on less one,
                 r,
                 refl,
                 told worker x z s a half on less one,

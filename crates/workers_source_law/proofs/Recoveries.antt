@@ -26,7 +26,7 @@ use Rattle.workers_law.proofs.Powers.{fenced, marks}
 use Rattle.cnvm_session.specs.declared.mode.Mode.{Mode}
 use Rattle.cnvm_session.specs.declared.mode.Mode.TheVariants as mode
 use Rattle.cnvm_session.specs.declared.program.Program.{Program}
-use Rattle.cnvm_session.specs.Marks.{policy_of, owes_marked}
+use Rattle.cnvm_session.specs.Marks.{policy_of, owes_marked, owes_unsigned}
 use Rattle.cnvm_session.specs.Outcomes.{answer_of_recovery, mode_of_recovery, RecoversBy}
 use Rattle.cnvm_session.proofs.Cases.{by_found}
 use Rattle.workers_session.specs.WorkersCommands.{ends_power, keeps_down}
@@ -229,14 +229,15 @@ module _ (program : Program) (super : Words) where
     held = fewer_held program super s.standing (still e.cache) e s (λ image im. im) left.held
 
     pub recovery_gives : (t : SourceState)
-        × Powers program s (view e.cache) (answer_of_recovery r) t
+        × Powers program s (view e.cache) (answer_of_recovery (owes_unsigned program e) r) t
         × Stands program super (keeps_down r) None b.cache t
     recovery_gives =
-        let by : RecoversBy (owes_marked program e) program.image e (answer_of_recovery r)
+        let told = answer_of_recovery (owes_unsigned program e) r in
+        let by : RecoversBy (owes_marked program e) (owes_unsigned program e) program.image e told
         (mode_of_recovery r) b k k1 =
         record { tx_answer = r; recovered = is; answer = refl; mode = refl } in
-        let done = held_recovers program super agrees e s on left.rest (answer_of_recovery r)
-        (mode_of_recovery r) b k k1 by held in (
+        let done = held_recovers program super agrees e s on left.rest told (mode_of_recovery r)
+        b k k1 by held in (
           done.0,
           done.1,
           record {

@@ -16,37 +16,51 @@ use Rattle.crash_law.specs.Law.{AreMarked}
 use Rattle.pool_workers.specs.declared.answer.TurnAnswer.{TurnAnswer}
 use Rattle.pool_workers.specs.declared.answer.TurnAnswer.TheVariants as turned
 use Rattle.pool_workers.specs.declared.task.Task.{Task}
+use Rattle.pool_workers.specs.declared.look.Look.TheVariants.{Fresh, Going, Seen}
 use Rattle.pool_workers.specs.declared.task.Task.TheVariants.{Begun, Running, Ending, Cut}
+use Rattle.pool_workers.specs.declared.task.Task.TheVariants.{Looking}
+use Rattle.pool_workers.specs.Look.{seen_answer}
 use Rattle.pool_workers.specs.Task.{task_past, answer_past, end_answer, piece_of, IsUncut}
 use Rattle.pool_workers.specs.Task.{WentWhole, Turned, IsTaskOr, task_phase}
 use Rattle.pool_workers.specs.Crew.{Tasks, task_at, compartment, TurnOf}
 use Rattle.workers_law.specs.AsCall.{begun_task}
 use Rattle.workers_law.specs.Fate.{fate_of, task_logs}
+use Rattle.workers_law.specs.Fenced.{fenced_cache}
 use Rattle.workers_law.specs.Left.{left_or}
 use Rattle.tx_run.specs.Due.{due_call}
+use Rattle.tx_run.specs.Looked.{look_answer}
+use Rattle.tx_run.specs.declared.looking.LookAnswer.TheVariants as looked
 use Rattle.workers_law.specs.Standing.{ShowsPlayed, ShowsSome}
 use Rattle.workers_law.proofs.Stands.{turns}
 use Rattle.workers_law.specs.Phases.{InPhase}
 use Rattle.workers_law.proofs.Phases.{phases}
 use Rattle.cache_model.specs.Image.{Images}
 use Rattle.session_law.specs.Law.{HasPhase}
+use Rattle.cnvm_session.specs.declared.answer.Answer.{Answer}
 use Rattle.cnvm_session.specs.declared.answer.Answer.TheVariants as answer
 use Rattle.cnvm_session.specs.declared.program.Program.{Program}
+use Rattle.cnvm_session.specs.Marks.{unsigned_of}
 use Rattle.workers_session.specs.declared.line.WorkersLine.{WorkersLine}
 use Rattle.workers_session.specs.declared.line.WorkersLine.TheVariants as line
 use Rattle.workers_session.specs.WorkersState.{stranger_in}
 use Rattle.workers_session.specs.WorkersCommands.{Scene, Unchanged, stopped_lines, turn_lines}
 use Rattle.workers_session.specs.WorkersCommands.{is_interrupted, TurnFor, TurnList, TurnsKnown}
+use Rattle.workers_session.specs.WorkersCommands.{task_unsigned}
 use Rattle.workers_session.specs.WorkersCommands.{TurnsGiven, rounds_of, round_from, FinishesAll}
 use Rattle.session_law.specs.Agrees.{Agrees}
-use Rattle.session_law.specs.State.{Pending, Down, Unusable, SourceState, standing_as}
+use Rattle.session_law.specs.Holds.{IsResting}
+use Rattle.session_law.specs.State.{Pending, Ready, Down, Unusable, SourceState, standing_as}
 use Rattle.workers_source_law.specs.States.{States, RestStays}
-use Rattle.workers_source_law.specs.Lines.{Ends, TurnLines}
+use Rattle.workers_source_law.specs.Lines.{IsEndedWith, Ends, TurnLines}
 use Rattle.workers_source_law.specs.Law.{Instant, LinesHold}
 use Rattle.workers_source_law.proofs.Phases.{phase_images}
-use Rattle.workers_source_law.proofs.Stills.{own, marks_play}
-use Rattle.workers_source_law.proofs.AtWork.{IsAtWork, work_goes, work_fenced, work_owes, work_done}
-use Rattle.workers_source_law.proofs.AtWork.{work_traps, work_ends}
+use Rattle.workers_source_law.proofs.Stills.{still, own, marks_play, rest_stands}
+use Rattle.workers_source_law.proofs.AtWork.{IsAtWork, work_goes, work_owes, work_done, work_traps}
+use Rattle.workers_source_law.proofs.AtWork.{work_ends}
+use Rattle.workers_source_law.proofs.AtLook.{look_task, IsAtLook, look_same, look_unrefused}
+use Rattle.workers_source_law.proofs.AtLook.{look_goes, look_ends, look_owes, look_means}
+use Rattle.workers_source_law.proofs.AtLook.{IsBusyWith, IsBusyIn, busy_fenced, busy_names}
+use Rattle.workers_source_law.proofs.AtLook.{busy_phase}
 use Rattle.workers_source_law.proofs.Invariants.{Stands, AllStand, changed, changed_own}
 use Rattle.workers_source_law.proofs.Invariants.{changed_others, AtCall, busy_at, stands_work}
 use Rattle.workers_source_law.proofs.Invariants.{stands_rest, stands_lost, others_stand}
@@ -89,8 +103,11 @@ stopped_mean program s w (Some t ∷ os) owes =
 some_went : (image : Image) (t u : Task) (c : Cache) → IsUncut t → task_past image t c ≡ Some u
     → answer_past t ≡ turned.Went
 some_went image (Begun tx args m) u c uncut is = refl
-some_went image (Running m a k) u c uncut is = refl
-some_went image (Ending end l) u c uncut is = absurd cc
+some_went image (Running tx m a k) u c uncut is = refl
+some_went image (Ending tx end l) u c uncut is = absurd cc
+some_went image (Looking tx (Fresh m)) u c uncut is = refl
+some_went image (Looking tx (Going m k)) u c uncut is = refl
+some_went image (Looking tx (Seen end)) u c uncut is = absurd cc
 some_went image (Cut p) u c uncut is = absurd uncut
 
 -- a turn that wasn't refused, or the refusal
@@ -102,6 +119,7 @@ refused_or turned.Idle image t o d b is = absurd is
 refused_or turned.Went image t o d b is = inl is
 refused_or (turned.Done v l) image t o d b is = inl is
 refused_or (turned.Trap k) image t o d b is = inl is
+refused_or (turned.Aborted k) image t o d b is = inl is
 refused_or turned.Off image t o d b is = inr (refusal.Off, is.0, refl)
 refused_or turned.Failed image t o d b is = inr (refusal.Failed, is.0, refl)
 refused_or turned.NoMemory image t o d b is = inr (refusal.NoMemory, is.0, refl)
@@ -132,152 +150,64 @@ module _ (program : Program) (supers : ℕ → Words) (agrees : Agrees program) 
         (subst (λ (is : Bool). Stands program super is (task_at x.workers.tasks worker) c
         (s worker)) up (all worker less)) turn.task_is
 
+    -- whether the transaction returns `uint64_t`
+    abbrev typed : Bool
+    typed = task_unsigned program (task_at x.workers.tasks worker)
+
+    typed_is : typed ≡ unsigned_of program at.call.tx
+    typed_is = ap (task_unsigned program) turn.task_is ∙ ap (unsigned_of program)
+        (busy_names program super at.call turn.task (s worker) c at.busy)
+
     rest_of : (t : States) → RestStays worker s t
         → Stands program super y.workers.down (task_at y.workers.tasks worker) b (t worker)
         → AllStand program supers y t
     rest_of t stay mine = others_stand program supers worker x y s t count turn.others turn.aside
         stay up all (λ less. mine)
 
-    shown_marks : ShowsSome (due_call EndPool program.image at.call.tx at.call.args at.work.start)
-        at.work.start b → AreMarked b
-    shown_marks shows = subst AreMarked (sym shows.shows.now_is)
-        (marks_play shows.shows.shown at.work.start at.work.marked)
-
-    owing : (down : Bool) (o : Option Task)
-        → ShowsSome (due_call EndPool program.image at.call.tx at.call.args at.work.start)
-        at.work.start b
-        → (down ≡ false → (t : Task) × (o ≡ Some t)
-        × IsAtWork program super at.call t b (s worker))
-        → Stands program super down o b (s worker)
-    owing is o shows goes =
-        stands_work program super at.call is o b (s worker) at.standing (shown_marks shows)
-        (work_owes program super at.call (s worker) agrees turn.task c at.work b shows)
-        at.work.plain goes
-
-    -- the turn was refused
-    stops : (why : Refusal) → PlaysPart why (compartment program.image worker x.device)
-        (piece_of program.image turn.task c) (compartment program.image worker y.device)
-        → is_interrupted a ≡ true → AllStand program supers y s
-    stops why part interrupted =
-        let shows = (turns program.image at.call.tx at.call.args at.work.start).3 why turn.task
-        (compartment program.image worker x.device) (compartment program.image worker y.device)
-        at.work.task at.work.stands part in
-        rest_of s (λ j ne. refl)
-        (owing y.workers.down (task_at y.workers.tasks worker) shows
-        (λ is. let no = sym is ∙ down ∙ interrupted in absurd cc))
+    -- the transaction ended with this answer, and leaves this state
+    ended : (told : Answer) (u : SourceState)
+        → turn_lines typed a worker y.workers.tasks ≡ line.Own worker told ∷ []
+        → ((v : Instant) → LinesHold program (line.Own worker told ∷ []) v)
+        → Ends program at.call told (s worker) u → Stands program super y.workers.down None b u
+        → task_at y.workers.tasks worker ≡ None
+        → Gives x s (turn_lines typed a worker y.workers.tasks) y
+    ended told u are holds ends stands none =
+        let t : States = changed worker u s in (
+          t,
+          subst (λ (ls : List WorkersLine). TurnLines program ls s t) (sym are) (
+            t,
+            (
+              at.call,
+              at.standing,
+              subst (λ (v : SourceState). Ends program at.call told (s worker) v)
+                  (sym (changed_own worker u s)) ends,
+              changed_others worker u s,
+            ),
+            refl,
+          ),
+          rest_of t (changed_others worker u s)
+              (subst (λ (v : SourceState). Stands program super y.workers.down
+              (task_at y.workers.tasks worker) b v) (sym (changed_own worker u s))
+              (subst (λ (o : Option Task). Stands program super y.workers.down o b u) (sym none)
+              stands)),
+          subst (λ (ls : List WorkersLine). LinesHold program ls
+              (record { scene = y; states = t })) (sym are)
+              (holds (record { scene = y; states = t })),
+          λ up v. subst (λ (ls : List WorkersLine). LinesHold program ls v) (sym are) (holds v),
+        )
 
     -- a task is left
-    goes_on : (u : Task) → task_at y.workers.tasks worker ≡ Some u
-        → WentWhole a program.image turn.task (Some u) (compartment program.image worker x.device)
-        (compartment program.image worker y.device)
-        → AllStand program supers y s
-    goes_on u is went =
-        let work : IsAtWork program super at.call u b (s worker) =
-        work_goes program super at.call (s worker) a turn.task u
-        (compartment program.image worker x.device) (compartment program.image worker y.device)
-        (subst (IsTaskOr program.image) is turn.is_task) at.work went in
-        rest_of s (λ j ne. refl)
-        (owing y.workers.down (task_at y.workers.tasks worker)
-        (record { left = left_or program.image (Some u) b; shows = transported work })
-        (λ down. (u, is, work)))
-      where
-        transported : IsAtWork program super at.call u b (s worker)
-            → ShowsPlayed (due_call EndPool program.image at.call.tx at.call.args at.work.start)
-            (left_or program.image (Some u) b) at.work.start b
-        transported work =
-            (turns program.image at.call.tx at.call.args at.work.start).1 a turn.task (Some u)
-            (compartment program.image worker x.device) (compartment program.image worker y.device)
-            at.work.task at.work.stands went
-
-    -- the transaction ended
-    ends : (end : End) (l : ℕ)
-        → fate_of program.image (begun_task program.image at.call.tx at.call.args) at.work.start
-        ≡ end
-        → l ≡ task_logs program.image (begun_task program.image at.call.tx at.call.args)
-        at.work.start
-        → a ≡ end_answer end l → task_at y.workers.tasks worker ≡ None
-        → ShowsPlayed (due_call EndPool program.image at.call.tx at.call.args at.work.start) []
-        at.work.start b
-        → Gives x s (turn_lines a worker y.workers.tasks) y
-    ends (Halted v) l fate logs told none shown =
-        let done = work_done program super at.call (s worker) agrees turn.task c at.work b shown v l
-        fate logs in
-        let t : States = changed worker done.0 s in (
-          t,
-          subst (λ (is : TurnAnswer). TurnLines program (turn_lines is worker y.workers.tasks) s t)
-              (sym told) (
-                t,
-                (
-                  at.call,
-                  at.standing,
-                  subst (λ (u : SourceState). Ends program at.call (answer.Done v l) (s worker) u)
-                      (sym (changed_own worker done.0 s)) done.1,
-                  changed_others worker done.0 s,
-                ),
-                refl,
-              ),
-          rest_of t (changed_others worker done.0 s)
-              (subst (λ (u : SourceState). Stands program super y.workers.down
-              (task_at y.workers.tasks worker) b u) (sym (changed_own worker done.0 s))
-              (subst (λ (o : Option Task). Stands program super y.workers.down o b done.0)
-              (sym none) (stands_rest program super y.workers.down b done.0 done.2
-              (shown_marks (record { left = []; shows = shown })) done.3))),
-          subst (λ (is : TurnAnswer). LinesHold program (turn_lines is worker y.workers.tasks)
-              (record { scene = y; states = t })) (sym told) (tt, tt),
-          λ up v. subst (λ (is : TurnAnswer). LinesHold program
-              (turn_lines is worker y.workers.tasks) v) (sym told) (tt, tt),
-        )
-    ends (Trapped kind) l fate logs told none shown =
-        let lost = work_traps program super at.call (s worker) agrees turn.task c at.work b shown
-        kind fate in
-        let v : SourceState = standing_as (Unusable kind) (s worker) in
-        let t : States = changed worker v s in (
-          t,
-          subst (λ (is : TurnAnswer). TurnLines program (turn_lines is worker y.workers.tasks) s t)
-              (sym told) (
-                t,
-                (
-                  at.call,
-                  at.standing,
-                  (lost.0, changed_own worker v s),
-                  changed_others worker v s,
-                ),
-                refl,
-              ),
-          rest_of t (changed_others worker v s)
-              (subst (λ (u : SourceState). Stands program super y.workers.down
-              (task_at y.workers.tasks worker) b u) (sym (changed_own worker v s))
-              (subst (λ (o : Option Task). Stands program super y.workers.down o b v)
-              (sym none) (stands_lost program super y.workers.down b v kind refl
-              (shown_marks (record { left = []; shows = shown })) lost.1))),
-          subst (λ (is : TurnAnswer). LinesHold program (turn_lines is worker y.workers.tasks)
-              (record { scene = y; states = t })) (sym told) (tt, tt),
-          λ up v. subst (λ (is : TurnAnswer). LinesHold program
-              (turn_lines is worker y.workers.tasks) v) (sym told) (tt, tt),
-        )
-
-    whole : (o : Option Task) → task_at y.workers.tasks worker ≡ o
-        → WentWhole a program.image turn.task o (compartment program.image worker x.device)
-        (compartment program.image worker y.device)
-        → Gives x s (turn_lines a worker y.workers.tasks) y
-    whole None is went =
-        let over = work_ends program super at.call (s worker) a turn.task
-        (compartment program.image worker x.device) (compartment program.image worker y.device)
-        at.work went in
-        ends (fate_of program.image (begun_task program.image at.call.tx at.call.args)
-        at.work.start) (task_logs program.image (begun_task program.image at.call.tx at.call.args)
-        at.work.start) refl refl over.told is over.all
-    whole (Some u) is went =
-        let answers : a ≡ turned.Went = went.0 ∙ some_went program.image turn.task u c
-        at.work.uncut (sym went.1) in (
+    went_on : a ≡ turned.Went → AllStand program supers y s
+        → Gives x s (turn_lines typed a worker y.workers.tasks) y
+    went_on answers stand =
+        let are : turn_lines typed a worker y.workers.tasks ≡ [] =
+        ap (λ (z : TurnAnswer). turn_lines typed z worker y.workers.tasks) answers in (
           s,
-          subst (λ (is : TurnAnswer). TurnLines program (turn_lines is worker y.workers.tasks) s s)
-              (sym answers) refl,
-          goes_on u is went,
-          subst (λ (is : TurnAnswer). LinesHold program (turn_lines is worker y.workers.tasks)
-              (record { scene = y; states = s })) (sym answers) tt,
-          λ up v. subst (λ (is : TurnAnswer). LinesHold program
-              (turn_lines is worker y.workers.tasks) v) (sym answers) tt,
+          subst (λ (ls : List WorkersLine). TurnLines program ls s s) (sym are) refl,
+          stand,
+          subst (λ (ls : List WorkersLine). LinesHold program ls
+              (record { scene = y; states = s })) (sym are) tt,
+          λ up v. subst (λ (ls : List WorkersLine). LinesHold program ls v) (sym are) tt,
         )
 
     -- each busy worker still owes its transaction
@@ -304,11 +234,12 @@ module _ (program : Program) (supers : ℕ → Words) (agrees : Agrees program) 
             (there.call, there.standing)
 
     interrupted_lines : (z : TurnAnswer) → is_interrupted z ≡ true
-        → TurnLines program (turn_lines z worker y.workers.tasks) s s
+        → TurnLines program (turn_lines typed z worker y.workers.tasks) s s
     interrupted_lines turned.Idle is = absurd cc
     interrupted_lines turned.Went is = absurd cc
     interrupted_lines (turned.Done v l) is = absurd cc
     interrupted_lines (turned.Trap k) is = absurd cc
+    interrupted_lines (turned.Aborted k) is = absurd cc
     interrupted_lines turned.Off is =
         stopped_mean program s 0 y.workers.tasks
         (λ j fits. subst (λ (i : ℕ). OwesIf (task_at y.workers.tasks j) (s i))
@@ -326,19 +257,6 @@ module _ (program : Program) (supers : ℕ → Words) (agrees : Agrees program) 
     phase_as j u is = phase_images (s j) (own program j y.device) (task_phase u)
         (phases.4 (pos (suc (s j).done)) u (own program j y.device) is)
 
-    own_phase : (o : Option Task) → Turned turned.Off program.image turn.task o
-        (compartment program.image worker x.device) (compartment program.image worker y.device)
-        → PhaseOr worker o
-    own_phase None off = absurd off.1
-    own_phase (Some (Begun tx args m)) off = absurd off.1
-    own_phase (Some (Running m n k)) off = absurd off.1
-    own_phase (Some (Ending end l)) off = absurd off.1
-    own_phase (Some (Cut p)) off =
-        phase_as worker (Cut p)
-        (phases.3 program.image (pos (suc (s worker).done)) turn.task p
-        (compartment program.image worker x.device) (compartment program.image worker y.device)
-        at.work.phase off)
-
     other_phase : (j : ℕ) → j ≢ worker → j < length x.workers.tasks → (o : Option Task)
         → task_at x.workers.tasks j ≡ o → PhaseOr j o
     other_phase j ne fits None is = tt
@@ -350,18 +268,10 @@ module _ (program : Program) (supers : ℕ → Words) (agrees : Agrees program) 
         let aside = other_aside program worker j x.device y.device ne turn.aside in
         phase_as j u
         (subst (InPhase (pos (suc (s j).done)) u) (sym aside.now)
-        (work_fenced program (supers j) there.call (s j) u aside.fenced (own program j x.device)
-        there.work).phase)
-
-    all_phases : Turned turned.Off program.image turn.task (task_at y.workers.tasks worker)
-        (compartment program.image worker x.device) (compartment program.image worker y.device)
-        → (j : ℕ) → j < length y.workers.tasks → PhaseOr j (task_at y.workers.tasks j)
-    all_phases off j fits = ⊎_elim
-        (λ (e : j ≡ worker). subst (λ (i : ℕ). PhaseOr i (task_at y.workers.tasks i)) (sym e)
-        (own_phase (task_at y.workers.tasks worker) off))
-        (λ (ne : j ≢ worker). subst (λ (o : Option Task). PhaseOr j o) (sym (turn.others j ne))
-        (other_phase j ne (omega (arith, fits, count)) (task_at x.workers.tasks j) refl))
-        (cases_eq j worker)
+        (busy_phase program (supers j) there.call u (s j)
+        (fenced_cache aside.fenced (own program j x.device))
+        (busy_fenced program (supers j) there.call u (s j) aside.fenced (own program j x.device)
+        there.busy)))
 
     stopped_hold : (w : ℕ) (os : Tasks)
         → ((j : ℕ) → j < length os → PhaseOr (w + j) (task_at os j))
@@ -377,35 +287,243 @@ module _ (program : Program) (supers : ℕ → Words) (agrees : Agrees program) 
           (let e : w + suc j ≡ suc w + j = omega arith in e) (each_is (suc j) (omega arith))),
     )
 
-    phase_lines : (z : TurnAnswer) → Turned z program.image turn.task
-        (task_at y.workers.tasks worker) (compartment program.image worker x.device)
-        (compartment program.image worker y.device)
-        → LinesHold program (turn_lines z worker y.workers.tasks)
-        (record { scene = y; states = s })
-    phase_lines turned.Idle is = tt
-    phase_lines turned.Went is = tt
-    phase_lines (turned.Done v l) is = (tt, tt)
-    phase_lines (turned.Trap k) is = (tt, tt)
-    phase_lines turned.Off is =
-        stopped_hold 0 y.workers.tasks
-        (λ j fits. subst (λ (i : ℕ). PhaseOr i (task_at y.workers.tasks j))
-        (let e : j ≡ 0 + j = omega arith in e) (all_phases is j fits))
-    phase_lines turned.Failed is = (tt, tt)
-    phase_lines turned.NoMemory is = (tt, tt)
+    -- its transaction may store
+    module _ (work : IsAtWork program super at.call turn.task c (s worker)) where
+      shown_marks : ShowsSome (due_call EndPool program.image at.call.tx at.call.args work.start)
+          work.start b → AreMarked b
+      shown_marks shows = subst AreMarked (sym shows.shows.now_is)
+          (marks_play shows.shows.shown work.start work.marked)
 
-    pub turn_gives : Gives x s (turn_lines a worker y.workers.tasks) y
-    turn_gives = ⊎_elim
-        (λ went. whole (task_at y.workers.tasks worker) refl went)
-        (λ refused. (
-          s,
-          interrupted_lines a refused.2,
-          stops refused.0 refused.1 refused.2,
-          phase_lines a turn.turned,
-          λ up v. let no = sym up ∙ down ∙ refused.2 in absurd cc,
-        ))
-        (refused_or a program.image turn.task (task_at y.workers.tasks worker)
-        (compartment program.image worker x.device) (compartment program.image worker y.device)
-        turn.turned)
+      owing : (down : Bool) (o : Option Task)
+          → ShowsSome (due_call EndPool program.image at.call.tx at.call.args work.start)
+          work.start b
+          → (down ≡ false → (t : Task) × (o ≡ Some t)
+          × IsBusyIn program super at.call t b (s worker))
+          → Stands program super down o b (s worker)
+      owing is o shows goes =
+          stands_work program super at.call is o b (s worker) at.standing (shown_marks shows)
+          (work_owes program super at.call (s worker) agrees turn.task c work b shows)
+          work.plain goes
+
+      -- the turn was refused
+      stops : (why : Refusal) → PlaysPart why (compartment program.image worker x.device)
+          (piece_of program.image turn.task c) (compartment program.image worker y.device)
+          → is_interrupted a ≡ true → AllStand program supers y s
+      stops why part interrupted =
+          let shows = (turns program.image at.call.tx at.call.args work.start).3 why turn.task
+          (compartment program.image worker x.device) (compartment program.image worker y.device)
+          work.task work.stands part in
+          rest_of s (λ j ne. refl)
+          (owing y.workers.down (task_at y.workers.tasks worker) shows
+          (λ is. let no = sym is ∙ down ∙ interrupted in absurd cc))
+
+      -- a task is left
+      goes_on : (u : Task) → task_at y.workers.tasks worker ≡ Some u
+          → WentWhole a program.image turn.task (Some u) (compartment program.image worker x.device)
+          (compartment program.image worker y.device)
+          → AllStand program supers y s
+      goes_on u is went =
+          let next : IsAtWork program super at.call u b (s worker) =
+          work_goes program super at.call (s worker) a turn.task u
+          (compartment program.image worker x.device) (compartment program.image worker y.device)
+          (subst (IsTaskOr program.image) is turn.is_task) work went in
+          rest_of s (λ j ne. refl)
+          (owing y.workers.down (task_at y.workers.tasks worker)
+          (record { left = left_or program.image (Some u) b; shows = transported })
+          (λ down. (u, is, record { looks = false; busy = next })))
+        where
+          transported : ShowsPlayed
+              (due_call EndPool program.image at.call.tx at.call.args work.start)
+              (left_or program.image (Some u) b) work.start b
+          transported =
+              (turns program.image at.call.tx at.call.args work.start).1 a turn.task (Some u)
+              (compartment program.image worker x.device)
+              (compartment program.image worker y.device) work.task work.stands went
+
+      -- the transaction ended
+      ends : (end : End) (l : ℕ)
+          → fate_of program.image (begun_task program.image at.call.tx at.call.args) work.start
+          ≡ end
+          → l ≡ task_logs program.image (begun_task program.image at.call.tx at.call.args)
+          work.start
+          → a ≡ end_answer end l → task_at y.workers.tasks worker ≡ None
+          → ShowsPlayed (due_call EndPool program.image at.call.tx at.call.args work.start) []
+          work.start b
+          → Gives x s (turn_lines typed a worker y.workers.tasks) y
+      ends (Halted v) l fate logs told none shown =
+          let done = work_done program super at.call (s worker) agrees turn.task c work b shown v l
+          fate logs in
+          ended (answer.Done v typed l) done.0
+          (ap (λ (z : TurnAnswer). turn_lines typed z worker y.workers.tasks) told)
+          (λ v. (tt, tt))
+          (subst (λ (looks : Bool). IsEndedWith looks program at.call v typed l (s worker) done.0)
+          (sym work.stores) (done.1.0, done.1.1, done.1.2, typed_is))
+          (stands_rest program super y.workers.down b done.0 done.2
+          (shown_marks (record { left = []; shows = shown })) done.3) none
+      ends (Trapped kind) l fate logs told none shown =
+          let lost = work_traps program super at.call (s worker) agrees turn.task c work b shown
+          kind fate in
+          let v : SourceState = standing_as (Unusable kind) (s worker) in
+          ended (answer.Trap kind) v
+          (ap (λ (z : TurnAnswer). turn_lines typed z worker y.workers.tasks) told)
+          (λ v. (tt, tt)) (lost.0, refl, work.stores)
+          (stands_lost program super y.workers.down b v kind refl
+          (shown_marks (record { left = []; shows = shown })) lost.1) none
+
+      whole : (o : Option Task) → task_at y.workers.tasks worker ≡ o
+          → WentWhole a program.image turn.task o (compartment program.image worker x.device)
+          (compartment program.image worker y.device)
+          → Gives x s (turn_lines typed a worker y.workers.tasks) y
+      whole None is went =
+          let over = work_ends program super at.call (s worker) a turn.task
+          (compartment program.image worker x.device) (compartment program.image worker y.device)
+          work went in
+          ends (fate_of program.image (begun_task program.image at.call.tx at.call.args)
+          work.start) (task_logs program.image (begun_task program.image at.call.tx at.call.args)
+          work.start) refl refl over.told is over.all
+      whole (Some u) is went =
+          went_on (went.0 ∙ some_went program.image turn.task u c work.uncut (sym went.1))
+          (goes_on u is went)
+
+      own_phase : (o : Option Task) → Turned turned.Off program.image turn.task o
+          (compartment program.image worker x.device) (compartment program.image worker y.device)
+          → PhaseOr worker o
+      own_phase None off = absurd off.1
+      own_phase (Some (Begun tx args m)) off = absurd off.1
+      own_phase (Some (Running tx m n k)) off = absurd off.1
+      own_phase (Some (Ending tx end l)) off = absurd off.1
+      own_phase (Some (Looking tx l)) off = absurd off.1
+      own_phase (Some (Cut p)) off =
+          phase_as worker (Cut p)
+          (phases.3 program.image (pos (suc (s worker).done)) turn.task p
+          (compartment program.image worker x.device) (compartment program.image worker y.device)
+          work.phase off)
+
+      all_phases : Turned turned.Off program.image turn.task (task_at y.workers.tasks worker)
+          (compartment program.image worker x.device) (compartment program.image worker y.device)
+          → (j : ℕ) → j < length y.workers.tasks → PhaseOr j (task_at y.workers.tasks j)
+      all_phases off j fits = ⊎_elim
+          (λ (e : j ≡ worker). subst (λ (i : ℕ). PhaseOr i (task_at y.workers.tasks i)) (sym e)
+          (own_phase (task_at y.workers.tasks worker) off))
+          (λ (ne : j ≢ worker). subst (λ (o : Option Task). PhaseOr j o) (sym (turn.others j ne))
+          (other_phase j ne (omega (arith, fits, count)) (task_at x.workers.tasks j) refl))
+          (cases_eq j worker)
+
+      phase_lines : (z : TurnAnswer) → Turned z program.image turn.task
+          (task_at y.workers.tasks worker) (compartment program.image worker x.device)
+          (compartment program.image worker y.device)
+          → LinesHold program (turn_lines typed z worker y.workers.tasks)
+          (record { scene = y; states = s })
+      phase_lines turned.Idle is = tt
+      phase_lines turned.Went is = tt
+      phase_lines (turned.Done v l) is = (tt, tt)
+      phase_lines (turned.Trap k) is = (tt, tt)
+      phase_lines (turned.Aborted k) is = (tt, tt)
+      phase_lines turned.Off is =
+          stopped_hold 0 y.workers.tasks
+          (λ j fits. subst (λ (i : ℕ). PhaseOr i (task_at y.workers.tasks j))
+          (let e : j ≡ 0 + j = omega arith in e) (all_phases is j fits))
+      phase_lines turned.Failed is = (tt, tt)
+      phase_lines turned.NoMemory is = (tt, tt)
+
+      work_gives : Gives x s (turn_lines typed a worker y.workers.tasks) y
+      work_gives = ⊎_elim
+          (λ went. whole (task_at y.workers.tasks worker) refl went)
+          (λ refused. (
+            s,
+            interrupted_lines a refused.2,
+            stops refused.0 refused.1 refused.2,
+            phase_lines a turn.turned,
+            λ up v. let no = sym up ∙ down ∙ refused.2 in absurd cc,
+          ))
+          (refused_or a program.image turn.task (task_at y.workers.tasks worker)
+          (compartment program.image worker x.device) (compartment program.image worker y.device)
+          turn.turned)
+
+    -- its transaction only looks
+    module _ (look : IsAtLook program super at.call turn.task c (s worker)) where
+      abbrev WentTo : Option Task → Type 0
+      WentTo o = WentWhole a program.image turn.task o
+          (compartment program.image worker x.device) (compartment program.image worker y.device)
+
+      stays : (o : Option Task) → WentTo o → c ≡ b
+      stays o went = sym (ap (λ (d : Device). d.cache)
+          (look_same a program.image turn.task o (compartment program.image worker x.device)
+          (compartment program.image worker y.device) look.kind went))
+
+      look_marked : c ≡ b → AreMarked b
+      look_marked same = subst AreMarked same (all worker less).marked
+
+      looks_on : (u : Task) → task_at y.workers.tasks worker ≡ Some u → WentTo (Some u)
+          → AllStand program supers y s
+      looks_on u is went =
+          let next : IsAtLook program super at.call u b (s worker) =
+          look_goes program super at.call (s worker) a turn.task u
+          (compartment program.image worker x.device) (compartment program.image worker y.device)
+          (subst (IsTaskOr program.image) is turn.is_task) look went in
+          rest_of s (λ j ne. refl)
+          (stands_work program super at.call y.workers.down (task_at y.workers.tasks worker) b
+          (s worker) at.standing (look_marked (stays (Some u) went))
+          (look_owes program super at.call (s worker) agrees u b next) next.plain
+          (λ down. (u, is, record { looks = true; busy = next })))
+
+      -- it is idle again, and its compartment is as it was
+      idle_again : c ≡ b → (u : SourceState) → u ≡ standing_as Ready (s worker)
+          → Stands program super y.workers.down None b u
+      idle_again same u is =
+          stands_rest program super y.workers.down b u
+          (ap (λ (v : SourceState). v.standing) is) (look_marked same)
+          (subst (λ (d : Cache). IsResting program super (still d) u) same
+          (subst (λ (v : SourceState). IsResting program super (still c) v) (sym is)
+          (rest_stands program super (still c) (s worker) Ready look.resting)))
+
+      look_over : (end : End) → fate_of program.image (look_task program at.call) c ≡ end
+          → a ≡ seen_answer end → task_at y.workers.tasks worker ≡ None → c ≡ b
+          → Gives x s (turn_lines typed a worker y.workers.tasks) y
+      look_over (Halted v) fate told none same =
+          let means = look_means program super at.call (s worker) agrees turn.task c look
+          (looked.Done v) (sym (ap look_answer fate)) in
+          ended (answer.Done v typed 0) means.0
+          (ap (λ (z : TurnAnswer). turn_lines typed z worker y.workers.tasks) told)
+          (λ v. (tt, tt))
+          (subst (λ (looks : Bool). IsEndedWith looks program at.call v typed 0 (s worker) means.0)
+          (sym look.looks) (means.1.0, means.1.1, means.1.2, typed_is))
+          (idle_again same means.0 means.1.2) none
+      look_over (Trapped kind) fate told none same =
+          let means = look_means program super at.call (s worker) agrees turn.task c look
+          (looked.Aborted kind) (sym (ap look_answer fate)) in
+          ended (answer.Aborted kind) means.0
+          (ap (λ (z : TurnAnswer). turn_lines typed z worker y.workers.tasks) told)
+          (λ v. (tt, tt)) (look.looks, means.1) (idle_again same means.0 means.1.1) none
+
+      look_whole : (o : Option Task) → task_at y.workers.tasks worker ≡ o → WentTo o
+          → Gives x s (turn_lines typed a worker y.workers.tasks) y
+      look_whole None is went =
+          look_over (fate_of program.image (look_task program at.call) c) refl
+          (look_ends program super at.call (s worker) a turn.task
+          (compartment program.image worker x.device) (compartment program.image worker y.device)
+          look went) is (stays None went)
+      look_whole (Some u) is went =
+          went_on (went.0 ∙ some_went program.image turn.task u c look.uncut (sym went.1))
+          (looks_on u is went)
+
+      look_gives : Gives x s (turn_lines typed a worker y.workers.tasks) y
+      look_gives = ⊎_elim
+          (λ went. look_whole (task_at y.workers.tasks worker) refl went)
+          (λ refused. absurd (look_unrefused refused.0 program.image turn.task
+          (compartment program.image worker x.device) (compartment program.image worker y.device)
+          look.kind refused.1))
+          (refused_or a program.image turn.task (task_at y.workers.tasks worker)
+          (compartment program.image worker x.device) (compartment program.image worker y.device)
+          turn.turned)
+
+    by_kind : (looks : Bool) → IsBusyWith program super at.call turn.task c (s worker) looks
+        → Gives x s (turn_lines typed a worker y.workers.tasks) y
+    by_kind true look = look_gives look
+    by_kind false work = work_gives work
+
+    pub turn_gives : Gives x s (turn_lines typed a worker y.workers.tasks) y
+    turn_gives = by_kind at.busy.looks at.busy.busy
 
   -- nothing happens
   pub unchanged_gives : (x y : Scene) (s : States) → AllStand program supers x s
@@ -428,10 +546,12 @@ module _ (program : Program) (supers : ℕ → Words) (agrees : Agrees program) 
   once : (worker : ℕ) (x y : Scene) (s : States) (a : TurnAnswer) (o : Option Task)
       → task_at x.workers.tasks worker ≡ o → x.workers.down ≡ false → AllStand program supers x s
       → worker < length x.workers.tasks → TurnFor o program.image worker a x y
-      → Gives x s (turn_lines a worker y.workers.tasks) y
+      → Gives x s (turn_lines (task_unsigned program (task_at x.workers.tasks worker)) a worker
+      y.workers.tasks) y
   once worker x y s a None is up all less turn =
-      quiet_gives [] x y s (turn_lines a worker y.workers.tasks) all refl (λ v. tt)
-      (ap (λ (z : TurnAnswer). turn_lines z worker y.workers.tasks) turn.0) turn.1
+      let u = task_unsigned program (task_at x.workers.tasks worker) in
+      quiet_gives [] x y s (turn_lines u a worker y.workers.tasks) all refl (λ v. tt)
+      (ap (λ (z : TurnAnswer). turn_lines u z worker y.workers.tasks) turn.0) turn.1
   once worker x y s a (Some t) is up all less turn =
       turn_gives worker x y s a up all less turn.0 turn.1 turn.3
 
@@ -481,7 +601,7 @@ module _ (program : Program) (supers : ℕ → Words) (agrees : Agrees program) 
 
   pub list_gives : (workers : List ℕ) (x y : Scene) (s : States) (lines : List WorkersLine)
       → AreKnown (length x.workers.tasks) workers → x.workers.down ≡ false
-      → AllStand program supers x s → TurnList program.image workers x lines y
+      → AllStand program supers x s → TurnList program workers x lines y
       → Gives x s lines y
   list_gives [] x y s lines known up all is =
       quiet_gives [] x y s lines all refl (λ v. tt) is.0 is.1
@@ -518,7 +638,7 @@ module _ (program : Program) (supers : ℕ → Words) (agrees : Agrees program) 
 
   pub turns_give : (down : Bool) (workers : List ℕ) (x y : Scene) (s : States)
       (lines : List WorkersLine) → x.workers.down ≡ down → AllStand program supers x s
-      → TurnsGiven down program.image workers x lines y → Gives x s lines y
+      → TurnsGiven down program workers x lines y → Gives x s lines y
   turns_give true workers x y s lines is all given =
       quiet_gives (line.Plain answer.RefusedDown ∷ []) x y s lines all (s, refl, refl)
       (λ v. (tt, tt)) given.0 given.1
@@ -526,7 +646,7 @@ module _ (program : Program) (supers : ℕ → Words) (agrees : Agrees program) 
       go (stranger_in (length x.workers.tasks) workers) refl given
     where
       go : (o : Option ℕ) → stranger_in (length x.workers.tasks) workers ≡ o
-          → TurnsKnown o program.image workers x lines y → Gives x s lines y
+          → TurnsKnown o program workers x lines y → Gives x s lines y
       go (Some stranger) is given =
           quiet_gives (line.RefusedWorker stranger ∷ []) x y s lines all (s, refl, refl)
           (λ v. (tt, tt)) given.0 given.1
@@ -553,7 +673,7 @@ module _ (program : Program) (supers : ℕ → Words) (agrees : Agrees program) 
 
   pub finish_gives : (down : Bool) (x y : Scene) (s : States) (lines : List WorkersLine)
       → x.workers.down ≡ down → AllStand program supers x s
-      → FinishesAll down program.image x lines y → Gives x s lines y
+      → FinishesAll down program x lines y → Gives x s lines y
   finish_gives true x y s lines is all given =
       quiet_gives (line.Plain answer.RefusedDown ∷ []) x y s lines all (s, refl, refl)
       (λ v. (tt, tt)) given.0 given.1

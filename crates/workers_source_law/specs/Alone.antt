@@ -1,7 +1,7 @@
 -- Each worker is as if it were alone: its own lines of a run, one after another, lead from what the
 -- source knew of its compartment to what it knows at the end, and no other line changes that.
 use mathlib.Core.Logic.{inl, inr}
-use Rattle.std.specs.Prelude.{ℕ, ◌<◌, ◌≡◌, ◌⊎◌, ◌==◌, Bool, true, false, List, [], ◌∷◌, ◌++◌}
+use Rattle.std.specs.Prelude.{ℕ, ◌<◌, ◌≡◌, ◌==◌, Bool, true, false, List, [], ◌∷◌, ◌++◌}
 use Rattle.std.specs.Prelude.{length, Option, Some, ℤ}
 use Rattle.cache_model.specs.Cache.{Words}
 use Rattle.pmem.specs.Device.{Device, powered}
@@ -19,7 +19,7 @@ use Rattle.workers_session.specs.declared.line.WorkersLine.TheVariants as line
 use Rattle.session_law.specs.Source.{source_parameters}
 use Rattle.session_law.specs.Agrees.{Agrees}
 use Rattle.session_law.specs.State.{Pending, Ready, Down, SourceState, standing_as}
-use Rattle.session_law.specs.Answers.{IsOutOfNumbers, RunsBy, Powers, Answers}
+use Rattle.session_law.specs.Answers.{IsCutOff, RunsAs, Powers, Answers}
 use Rattle.workers_source_law.specs.Lines.{Ends, worker_image}
 use Rattle.workers_source_law.specs.Law.{Instant, AllHold, RanWorkers, BrokeOff}
 
@@ -66,34 +66,12 @@ IsBarred program name s =
     (tx : ℕ) × (call_number program name ≡ Some tx) × (rolls_back_of program tx ≡ true)
     × (s.standing ≡ Ready)
 
--- Its numbers are at their end, so it doesn't begin this transaction, though that only looks and
--- would take no number in a session.
-pub record IsOutAlone (program : Program) (name : List ℕ) (args : List ℤ) (image : Words)
-    (s : SourceState) : Type 0 where
-  pub tx : ℕ
-  pub named : call_number program name ≡ Some tx
-  pub takes : source_parameters program tx ≡ Some (length args)
-  pub looks : looks_of program tx ≡ true
-  pub ready : s.standing ≡ Ready
-  pub out : IsOutOfNumbers s image s
-
-abbrev pub RefusesLook : Program → Words → Command → SourceState → Type 0
-RefusesLook program image (session.Call name args) s = IsOutAlone program name args image s
-RefusesLook program image c s = ⊥
-
--- a command that names the worker is answered as in a session, unless it is to look and the numbers
--- are at their end
-abbrev pub ToldAlone : Program → Words → Command → Answer → (s t : SourceState) → Type 0
-ToldAlone program image c answer.RefusedNumbers s t =
-    Answers program s image c answer.RefusedNumbers t ⊎ RefusesLook program image c s
-ToldAlone program image c a s t = Answers program s image c a t
-
 -- What one line says of its worker's state, by the source alone. No worker has a stray line.
 abbrev pub AloneStep : Program → OwnEvent → (s t : SourceState) → Type 0
 AloneStep program (Began name args) s t = BeginsAlone program name args s t
 AloneStep program (Ended a) s t = EndsAlone program a s t
 AloneStep program (Recovered image a) s t = RecoversAlone program image a s t
-AloneStep program (Told image c a) s t = ToldAlone program image c a s t × (t ≡ s)
+AloneStep program (Told image c a) s t = Answers program s image c a t × (t ≡ s)
 AloneStep program Busy s t = IsBusy s × (t ≡ s)
 AloneStep program (Barred name) s t = IsBarred program name s × (t ≡ s)
 AloneStep program Stray s t = ⊥
@@ -196,19 +174,24 @@ AlonePartLaw =
     AloneChain program (own_events_before program worker commands x w y w' broke) (x.states worker)
     (y.states worker)
 
+-- the end of a call that was begun, as in a session; or the power went, and it was interrupted
+abbrev pub EndsAsCall : Program → SourceState → Words → (tx : ℕ) → List ℤ → Answer → SourceState
+    → Type 0
+EndsAsCall program s image tx args (answer.Stopped at) t = IsCutOff s tx args t
+EndsAsCall program s image tx args a t =
+    RunsAs (looks_of program tx) false program s image tx args a t
+
 -- A transaction that was begun is the call of a session that has the compartment alone, whatever
 -- image the call finds: it is answered as it ends, and until then it is one that was interrupted.
--- Of a transaction that only looks a worker makes no more than of another, so it runs as one that
--- isn't marked; each other one is called as in a session.
 pub record IsAsCall (program : Program) (name : List ℕ) (args : List ℤ) (s r : SourceState)
     (image : Words) : Type 0 where
   pub tx : ℕ
   pub named : call_number program name ≡ Some tx
-  pub interrupted : RunsBy false program s image tx args answer.DeviceFault r
+  pub interrupted : IsCutOff s tx args r
   pub ended : (a : Answer) (t : SourceState) → AloneStep program (Ended a) r t
-      → RunsBy false program s image tx args a t
-  pub called : looks_of program tx ≡ false → (a : Answer) (t : SourceState)
-      → RunsBy false program s image tx args a t
+      → EndsAsCall program s image tx args a t
+  pub called : (a : Answer) (t : SourceState)
+      → RunsAs (looks_of program tx) false program s image tx args a t
       → Answers program s image (session.Call name args) a t
 
 abbrev pub AsCallLaw : Type 0

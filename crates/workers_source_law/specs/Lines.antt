@@ -1,7 +1,8 @@
 -- The meaning of the lines of a command by the source alone, and what the source knows of each
 -- worker after it. Of the device it looks only at the images that a power cut leaves of the
 -- compartments. The order of turns and their number don't matter, only the lines.
-use Rattle.std.specs.Prelude.{ℕ, suc, ◌≡◌, ◌⊎◌, false, List, [], ◌∷◌, length, Some, ℤ, pos}
+use Rattle.std.specs.Prelude.{ℕ, suc, ◌≡◌, ◌⊎◌, Bool, true, false, List, [], ◌∷◌, length, Some, ℤ}
+use Rattle.std.specs.Prelude.{pos}
 use Rattle.cache_model.specs.Cache.{Words, view}
 use Rattle.pmem.specs.Device.{Device, powered}
 use Rattle.pool_map.specs.PoolText.{pool_text}
@@ -11,14 +12,14 @@ use Rattle.cnvm_session.specs.declared.answer.Answer.{Answer}
 use Rattle.cnvm_session.specs.declared.answer.Answer.TheVariants as answer
 use Rattle.cnvm_session.specs.declared.program.Program.{Program}
 use Rattle.cnvm_session.specs.Commands.{call_number}
-use Rattle.cnvm_session.specs.Marks.{rolls_back_of}
+use Rattle.cnvm_session.specs.Marks.{rolls_back_of, looks_of}
 use Rattle.workers_script.specs.declared.command.WorkersCommand.{WorkersCommand}
 use Rattle.workers_script.specs.declared.command.WorkersCommand.TheVariants as command
 use Rattle.workers_session.specs.declared.line.WorkersLine.{WorkersLine}
 use Rattle.workers_session.specs.declared.line.WorkersLine.TheVariants as line
 use Rattle.session_law.specs.Source.{source_parameters}
 use Rattle.session_law.specs.State.{Pending, Ready, Down, Unusable, SourceState, standing_as}
-use Rattle.session_law.specs.Answers.{IsDoneWith, TrapsAs, Powers}
+use Rattle.session_law.specs.Answers.{IsDoneWith, TrapsAs, Looks, Powers}
 use Rattle.workers_source_law.specs.States.{States, RestStays}
 
 -- The worker's compartment takes calls, and from now on it owes this transaction of the source,
@@ -41,14 +42,26 @@ StartLines program worker name args (line.Started w ∷ []) s t =
 StartLines program worker name args (l ∷ []) s t = t ≡ s
 StartLines program worker name args lines s t = ⊥
 
--- The end of an owed transaction: it is done, with the value, the logged stores and the pool that
--- the source gives on the compartment's own pool; or it comes to a trap; or the power went, and it
--- is still owed.
+-- An owed transaction is done, with the value, the logged stores and the pool that the source gives
+-- on the compartment's own pool; one that only looks is answered as in a session.
+abbrev pub IsEndedWith : (looks : Bool) → Program → Pending → (value : ℤ) → (unsigned : Bool)
+    → (logged : ℕ) → (s t : SourceState) → Type 0
+IsEndedWith true program call value unsigned logged s t =
+    Looks program (standing_as Ready s) call.tx call.args (answer.Done value unsigned logged) t
+IsEndedWith false program call value unsigned logged s t =
+    IsDoneWith false program s call.tx call.args value unsigned logged Ready t
+
+-- The end of an owed transaction: it is done; or it comes to a trap, which is all the same to a
+-- compartment that it only looked at; or the power went, and it is still owed.
 abbrev pub Ends : Program → Pending → Answer → (s t : SourceState) → Type 0
-Ends program call (answer.Done value logged) s t =
-    IsDoneWith false program s call.tx call.args value logged Ready t
+Ends program call (answer.Done value unsigned logged) s t =
+    IsEndedWith (looks_of program call.tx) program call value unsigned logged s t
 Ends program call (answer.Trap kind) s t =
     TrapsAs false program s call.tx call.args kind × (t ≡ standing_as (Unusable kind) s)
+    × (looks_of program call.tx ≡ false)
+Ends program call (answer.Aborted kind) s t =
+    (looks_of program call.tx ≡ true)
+    × Looks program (standing_as Ready s) call.tx call.args (answer.Aborted kind) t
 Ends program call (answer.Stopped at) s t = t ≡ s
 Ends program call a s t = ⊥
 

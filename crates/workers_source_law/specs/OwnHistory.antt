@@ -2,7 +2,7 @@
 -- lost and none is done twice, and its compartment's heap holds the pool to which its history
 -- leads.
 use Rattle.std.specs.Prelude.{ℕ, suc, ◌<◌, ◌≡◌, ◌≢◌, ◌⊎◌, false, List, [], ◌∷◌, ◌++◌, length}
-use Rattle.std.specs.Prelude.{Option, Some, pos}
+use Rattle.std.specs.Prelude.{Option, Some, pos, if◌then◌else◌}
 use Rattle.cache_model.specs.Cache.{Words}
 use Rattle.pmem.specs.Device.{Device}
 use Rattle.pool_layout.specs.declared.places.TheConstants.{SEAL}
@@ -11,15 +11,15 @@ use Rattle.pool_workers.specs.Crew.{compartment}
 use Rattle.cnvm_session.specs.declared.answer.Answer.{Answer}
 use Rattle.cnvm_session.specs.declared.program.Program.{Program}
 use Rattle.cnvm_session.specs.Commands.{call_number}
-use Rattle.cnvm_session.specs.Marks.{rolls_back_of}
+use Rattle.cnvm_session.specs.Marks.{rolls_back_of, looks_of}
 use Rattle.cnvm_session.specs.Pool.{sizes_of}
 use Rattle.workers_script.specs.declared.command.WorkersCommand.{WorkersCommand}
 use Rattle.session_law.specs.Source.{source_pool}
 use Rattle.session_law.specs.Agrees.{Agrees}
 use Rattle.session_law.specs.State.{Pending, Ready, Down, SourceState, standing_as, created}
 use Rattle.session_law.specs.Answers.{HasSeal, IsConcluded}
-use Rattle.session_law.specs.History.{LeadsTo, waiting_of, call_to, called_by, recovered_by, IsPart}
-use Rattle.session_law.specs.History.{HasDone}
+use Rattle.session_law.specs.History.{LeadsTo, waiting_of, call_to, counted, called_by}
+use Rattle.session_law.specs.History.{recovered_by, IsPart, HasDone}
 use Rattle.session_law.specs.Law.{IsCompleted}
 use Rattle.workers_source_law.specs.Law.{Instant, AllHold, RanWorkers, first_instant, last_instant}
 use Rattle.workers_source_law.specs.Law.{RanNew}
@@ -35,18 +35,25 @@ abbrev pub begun_in : Program → List OwnEvent → List Pending
 begun_in program [] = []
 begun_in program (e ∷ events) = begun_by program e ++ begun_in program events
 
--- What a step finishes: what was owed, if it is answered with a value, or as a recovery shows.
-abbrev pub own_finished : SourceState → OwnEvent → List Pending
-own_finished s (Ended a) = called_by (waiting_of s.standing) a
-own_finished s (Recovered image a) = recovered_by s image a
-own_finished s e = []
+-- those that don't only look
+abbrev pub storing : Program → List Pending → List Pending
+storing program [] = []
+storing program (call ∷ calls) =
+    if looks_of program call.tx then storing program calls else call ∷ storing program calls
+
+-- What a step finishes: what was owed, if it is answered with a value and doesn't only look, or as
+-- a recovery shows.
+abbrev pub own_finished : Program → SourceState → OwnEvent → List Pending
+own_finished program s (Ended a) = called_by (storing program (waiting_of s.standing)) a
+own_finished program s (Recovered image a) = recovered_by s image a
+own_finished program s e = []
 
 -- the worker's history: the transactions that its chain finishes, in order
 abbrev pub history_of : (program : Program) (events : List OwnEvent) (s t : SourceState)
     → AloneChain program events s t → List Pending
 history_of program [] s t chain = []
 history_of program (e ∷ events) s t chain =
-    own_finished s e ++ history_of program events chain.0 t chain.2
+    own_finished program s e ++ history_of program events chain.0 t chain.2
 
 -- Exactly if sealed: where the recovery of the worker's compartment is completed, what it owed is
 -- finished if the image that the power cut left of the compartment has its seal; else nothing is.
@@ -54,16 +61,17 @@ abbrev pub OwnSealedLaw : Type 0
 OwnSealedLaw =
     (program : Program) (owed : Pending) (s t : SourceState) (image : Words) (a : Answer) →
     s.standing ≡ Down (Some owed) → IsCompleted a → AloneStep program (Recovered image a) s t →
-    (HasSeal s image × (own_finished s (Recovered image a) ≡ owed ∷ [])
+    (HasSeal s image × (own_finished program s (Recovered image a) ≡ owed ∷ [])
     × IsConcluded (rolls_back_of program owed.tx) program owed s Ready t)
-    ⊎ ((image SEAL ≢ pos (suc s.done)) × (own_finished s (Recovered image a) ≡ [])
+    ⊎ ((image SEAL ≢ pos (suc s.done)) × (own_finished program s (Recovered image a) ≡ [])
     × (t ≡ standing_as Ready s))
 
--- the transactions that were answered with a value, where these are owed
+-- the transactions that were answered with a value, where these are owed; but for those that only
+-- look
 abbrev pub answered_from : Program → List Pending → List OwnEvent → List Pending
 answered_from program owed [] = []
 answered_from program owed (Began name args ∷ events) =
-    answered_from program (call_to (call_number program name) args) events
+    answered_from program (call_to (counted program (call_number program name)) args) events
 answered_from program owed (Ended a ∷ events) =
     called_by owed a ++ answered_from program owed events
 answered_from program owed (e ∷ events) = answered_from program owed events

@@ -53,7 +53,7 @@ fn begin_with<P: Pmem>(
     ensures lines { HasCompartments image.now workers.new (P.device dev.now) }
     ensures count { length workers.new ≡ length workers.old }
 {
-    let _ = workers.begin(image, worker, tx, &[value], dev);
+    let _ = workers.begin(image, worker, tx, &[value], false, dev);
 }
 
 /// Worker 0 begins a call of `PUT`, and worker 1 of this transaction. They take turns in this

@@ -43,8 +43,11 @@ fn is_refused(answer: TurnAnswer) -> bool
 {
     match answer {
         TurnAnswer::Off | TurnAnswer::Failed | TurnAnswer::NoMemory => true,
-        TurnAnswer::Idle | TurnAnswer::Went | TurnAnswer::Done { .. } | TurnAnswer::Trap(_) =>
-            false,
+        TurnAnswer::Idle
+        | TurnAnswer::Went
+        | TurnAnswer::Done { .. }
+        | TurnAnswer::Trap(_)
+        | TurnAnswer::Aborted(_) => false,
     }
 }
 
@@ -145,7 +148,7 @@ pub fn begin_all<P: Pmem>(workers: &mut Workers, image: &Image, dev: &P)
     ensures count { length workers.new ≡ length workers.old }
 {
     for worker in 0..workers.count() {
-        let _ = workers.begin(image, worker, 1, &[i64::from(worker) + 1], dev);
+        let _ = workers.begin(image, worker, 1, &[i64::from(worker) + 1], false, dev);
     }
 }
 

@@ -1,6 +1,7 @@
 use Rattle.workers_law.proofs.Stands.{left_next, same_left, turns, shown_images}
 use Rattle.workers_law.proofs.AsCalls.{called}
 use Rattle.workers_law.proofs.Fates.{fates}
+use Rattle.workers_law.proofs.LookTurned.{look_turns}
 use Rattle.workers_law.proofs.CutsTurned.{cut_turns, cut_pieces}
 use Rattle.workers_law.proofs.turn_law.Goals as goal
 
@@ -18,6 +19,9 @@ returns-clause-images c = shown_images
 
 pub returns-clause-fate : goal.returns-clause-fate
 returns-clause-fate c = fates
+
+pub returns-clause-looks : goal.returns-clause-looks
+returns-clause-looks c = look_turns
 
 pub returns-clause-cut : goal.returns-clause-cut
 returns-clause-cut c = cut_turns

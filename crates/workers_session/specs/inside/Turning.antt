@@ -4,7 +4,10 @@ use Rattle.std.specs.Prelude.{true, false}
 use Rattle.pool_workers.specs.declared.answer.BeginAnswer.{BeginAnswer}
 use Rattle.pool_workers.specs.declared.answer.BeginAnswer.TheVariants as begins
 use Rattle.pool_workers.specs.declared.task.Task.{Task}
+use Rattle.pool_workers.specs.declared.look.Look.{Look}
+use Rattle.pool_workers.specs.declared.look.Look.TheVariants.{Fresh, Going, Seen}
 use Rattle.pool_workers.specs.declared.task.Task.TheVariants.{Begun, Running, Ending, Cut}
+use Rattle.pool_workers.specs.declared.task.Task.TheVariants.{Looking}
 use Rattle.pool_workers.specs.Crew.{Tasks, task_at}
 use Rattle.cnvm_session.specs.declared.answer.Answer.TheVariants as answer
 use Rattle.workers_session.specs.declared.line.WorkersLine.{WorkersLine}
@@ -34,11 +37,17 @@ begin_runs_out begins.Numbers = false
 begin_runs_out begins.Off = false
 begin_runs_out begins.NoMemory = true
 
--- the turns that a transaction has at most
+-- the turns that a look, and a transaction, has at most
+abbrev pub look_turns : (most : ℕ) → Look → ℕ
+look_turns most (Fresh m) = most + 2
+look_turns most (Going m k) = k + 1
+look_turns most (Seen end) = 1
+
 abbrev pub turns_of : (most : ℕ) → Task → ℕ
 turns_of most (Begun tx args m) = most + 2
-turns_of most (Running m a k) = k + 1
-turns_of most (Ending end l) = 1
+turns_of most (Running tx m a k) = k + 1
+turns_of most (Ending tx end l) = 1
+turns_of most (Looking tx l) = look_turns most l
 turns_of most (Cut p) = 0
 
 abbrev pub turns_left : (most : ℕ) → Option Task → ℕ

@@ -17,8 +17,9 @@ returns-clause-begins g c k =
     let on = c.requires.sound.on c.requires.up in
     rw (← c.self.view_is, c.begin_line.ensures, c.begin_runs_out-self-inside.ensures)
     (begins_as image c.args.worker c.args.tx c.args.args.now d k w c.begin-answer.new.self up idle
-    c.begin-answer.ensures.others c.begin-answer.ensures.count
+    c.begin-answer.ensures.others c.begin-answer.ensures.count c.args.looks
     (standing_at image c.args.worker d) c.begin-answer.result c.requires.unmarked
     (λ off. not_off (view (compartment image c.args.worker d).cache) off)
-    (λ is. c.begin-answer.ensures.numbers idle on is)
+    (λ stores is. c.begin-answer.ensures.numbers stores idle on is)
+    (λ looks is. c.begin-answer.ensures.unnumbered looks idle on is)
     (λ is. c.begin-answer.ensures.ready idle on is))

@@ -2,8 +2,8 @@ use Rattle.pool_layout.specs.Sizes.{pool_lines}
 use Rattle.pool_workers.specs.Compartment.{first_line}
 use Rattle.workers_session.proofs.session.WorkersSession.recover.Given as goal
 
-abbrev pub ghosts-owes_marked_in : goal.ghosts-owes_marked_in
-ghosts-owes_marked_in g a =
+abbrev pub ghosts-owed_in : goal.ghosts-owed_in
+ghosts-owed_in g a =
     record {
       first = first_line a.program.now.image.parts.sizes a.worker;
       lines = pool_lines a.program.now.image.parts.sizes;

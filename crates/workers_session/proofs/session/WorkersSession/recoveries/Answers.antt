@@ -1,7 +1,5 @@
 use Rattle.std.proofs.Common.{◌≡◌, ◌∙◌, ◌++◌, ◌-◌, ◌<◌, ◌∷◌, [], sym, length, arith}
-use Rattle.cnvm_session.specs.Outcomes.{answer_of_recovery}
-use Rattle.workers_session.specs.declared.line.WorkersLine.TheVariants.{Own}
-use Rattle.workers_session.specs.WorkersCommands.{scene_of}
+use Rattle.workers_session.specs.WorkersCommands.{scene_of, recovered_line}
 use Rattle.workers_session.proofs.Crews.{idle_more}
 use Rattle.workers_session.proofs.Extending.{extends_more, extends_nothing}
 use Rattle.workers_session.proofs.Turnings.{back_next, back_over, back_end}
@@ -18,7 +16,7 @@ returns-then-ends-clause-does g c =
     let m = scene_of c.recover-more.new.self (dev c.recover-more.new.dev)
     c.recover-more.new.steps in
     let lines = c.loop-worker.invariant.lines in
-    let own = Own i (answer_of_recovery r.0) ∷ [] in
+    let own = recovered_line c.args.program.now i r.0 z ∷ [] in
     let end = c.count-worker-end.ensures in
     let test = c.loop-worker-test.true in
     let less : i < all = omega (arith, end, test) in (
@@ -40,7 +38,7 @@ loop-worker-preserved g c =
     let m = scene_of c.recover-more.new.self (dev c.recover-more.new.dev)
     c.recover-more.new.steps in
     let lines = c.loop-worker.invariant.lines in
-    let own = Own i (answer_of_recovery r.0) ∷ [] in
+    let own = recovered_line c.args.program.now i r.0 z ∷ [] in
     let end = c.count-worker-end.ensures in
     let test = c.loop-worker-test.true in
     let less : i < all = omega (arith, end, test) in

@@ -24,9 +24,9 @@ returns-then-self-clause-does g c =
       lines ++ does.0,
       extends_more c.args.told c.loop-worker.told c.turn-told.result lines does.0
           c.loop-worker.invariant.told does.1,
-      leads_over c.args.image.now i (round_from (i + 1) (all - (i + 1))) (round_from 0 all) x z m
+      leads_over c.args.program.now i (round_from (i + 1) (all - (i + 1))) (round_from 0 all) x z m
           lines does.0
-          (subst (λ (l : List ℕ). LeadsOn c.args.image.now l (round_from 0 all) x z lines)
+          (subst (λ (l : List ℕ). LeadsOn c.args.program.now l (round_from 0 all) x z lines)
           (round_next i all less) c.loop-worker.invariant.leads) does.2
           (sym (ap (λ (s : WorkersState). s.down) c.self.view_is) ∙ c.if-self.true),
     )
@@ -52,15 +52,17 @@ loop-worker-preserved g c =
       rest = λ j past.
           c.turn-told.ensures.others j (λ (e : j ≡ i). omega arith)
           ∙ c.loop-worker.invariant.rest j (omega arith);
-      fewer = busy_more c.args.image.now.parts.most i c.args.self.now.tasks c.loop-worker.self.tasks
+      fewer = busy_more c.args.program.now.image.parts.most i c.args.self.now.tasks
+          c.loop-worker.self.tasks
           c.turn-told.new.self.tasks (c.loop-worker.invariant.rest i (omega arith))
           c.loop-worker.invariant.fewer (c.turn-told.ensures.fewer up);
       lines = lines ++ does.0;
       told = extends_more c.args.told c.loop-worker.told c.turn-told.result lines does.0
           c.loop-worker.invariant.told does.1;
-      leads = leads_next c.args.image.now i (round_from (i + 1) (all - (i + 1))) (round_from 0 all)
+      leads = leads_next c.args.program.now i (round_from (i + 1) (all - (i + 1))) (round_from 0
+          all)
           x z m lines does.0
-          (subst (λ (l : List ℕ). LeadsOn c.args.image.now l (round_from 0 all) x z lines)
+          (subst (λ (l : List ℕ). LeadsOn c.args.program.now l (round_from 0 all) x z lines)
           (round_next i all less) c.loop-worker.invariant.leads) does.2 up;
     }
 
@@ -78,7 +80,7 @@ returns-clause-does g c =
       lines ++ [],
       extends_more c.args.told c.loop-worker.told c.loop-worker.told lines []
           c.loop-worker.invariant.told (extends_nothing c.loop-worker.told),
-      leads_end c.args.image.now (round_from 0 all) x z lines
-          (subst (λ (l : List ℕ). LeadsOn c.args.image.now l (round_from 0 all) x z lines)
+      leads_end c.args.program.now (round_from 0 all) x z lines
+          (subst (λ (l : List ℕ). LeadsOn c.args.program.now l (round_from 0 all) x z lines)
           (round_none i all none) c.loop-worker.invariant.leads),
     )

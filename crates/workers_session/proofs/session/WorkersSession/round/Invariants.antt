@@ -12,16 +12,16 @@ abbrev pub invariant-loop-worker : goal.invariant-loop-worker
 invariant-loop-worker g l =
     let dev = g.P.PmemWork.device in
     let all = length l.initial.self.tasks in record {
-      sound : IsReadyFor l.image l.self (dev l.dev);
+      sound : IsReadyFor l.program.image l.self (dev l.dev);
       up : l.self.down ≡ false;
       count : length l.self.tasks ≡ all;
       rest : (j : ℕ) → l.worker ≤ j → task_at l.self.tasks j ≡ task_at l.initial.self.tasks j;
-      fewer : turns_in l.image.parts.most l.self.tasks
+      fewer : turns_in l.program.image.parts.most l.self.tasks
           + busy_first l.worker l.initial.self.tasks
-          ≤ turns_in l.image.parts.most l.initial.self.tasks;
+          ≤ turns_in l.program.image.parts.most l.initial.self.tasks;
       lines : List WorkersLine;
       told : Extends l.initial.told l.told lines;
-      leads : LeadsOn l.image (round_from l.worker (all - l.worker)) (round_from 0 all)
+      leads : LeadsOn l.program (round_from l.worker (all - l.worker)) (round_from 0 all)
           (scene_of l.initial.self (dev l.initial.dev) l.initial.steps)
           (scene_of l.self (dev l.dev) l.steps) lines;
     }

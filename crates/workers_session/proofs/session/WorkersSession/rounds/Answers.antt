@@ -7,7 +7,7 @@ use Rattle.workers_session.proofs.session.WorkersSession.rounds.Goals as goal
 pub rounds-preserved : goal.rounds-preserved
 rounds-preserved g c =
     let dev = g.P.PmemWork.device in
-    let image = c.args.image.now in
+    let program = c.args.program.now in
     let all = length c.args.self.now.tasks in
     let was = c.rounds.invariant in
     let does = c.round-told.ensures.does in
@@ -22,9 +22,9 @@ rounds-preserved g c =
       lines = was.lines ++ does.0;
       told = extends_more c.args.told c.rounds.told c.round-told.result was.lines does.0 was.told
           does.1;
-      turns = subst (λ (ws : List ℕ). TurnList image ws x (was.lines ++ does.0) m)
+      turns = subst (λ (ws : List ℕ). TurnList program ws x (was.lines ++ does.0) m)
           (rounds_end was.rounds all)
-          (turns_append image (rounds_of was.rounds all) (round_from 0 all) x z m was.lines does.0
+          (turns_append program (rounds_of was.rounds all) (round_from 0 all) x z m was.lines does.0
           was.turns up
-          (subst (λ (n : ℕ). TurnList image (round_from 0 n) z does.0 m) was.count does.2));
+          (subst (λ (n : ℕ). TurnList program (round_from 0 n) z does.0 m) was.count does.2));
     }

@@ -10,16 +10,16 @@ abbrev pub invariant-rounds : goal.invariant-rounds
 invariant-rounds g l =
     let dev = g.P.PmemWork.device in
     let all = length l.initial.self.tasks in record {
-      sound : IsReadyFor l.image l.self (dev l.dev);
+      sound : IsReadyFor l.program.image l.self (dev l.dev);
       count : length l.self.tasks ≡ all;
       rounds : ℕ;
       lines : List WorkersLine;
       told : Extends l.initial.told l.told lines;
-      turns : TurnList l.image (rounds_of rounds all)
+      turns : TurnList l.program (rounds_of rounds all)
           (scene_of l.initial.self (dev l.initial.dev) l.initial.steps) lines
           (scene_of l.self (dev l.dev) l.steps);
     }
 
 abbrev pub decreases-rounds : goal.decreases-rounds
 decreases-rounds g l =
-    if l.self.down then 0 else 1 + turns_in l.image.parts.most l.self.tasks
+    if l.self.down then 0 else 1 + turns_in l.program.image.parts.most l.self.tasks

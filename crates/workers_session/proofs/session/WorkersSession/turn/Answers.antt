@@ -10,10 +10,12 @@ returns-clause-sound g c =
     let d = g.P.PmemWork.device c.args.dev.now in
     let w : WorkersState = record { tasks = c.self.inside.workers; down = c.self.inside.down } in
     rw c.is_interrupted-self-inside.ensures
-    (turn_sound c.args.image.now c.args.worker c.turn-answer.result w c.turn-answer.new.self d
+    (turn_sound c.args.program.now.image c.args.worker c.turn-answer.result w
+    c.turn-answer.new.self d
     (g.P.PmemWork.device c.turn-answer.new.dev) c.args.steps.now c.turn-answer.new.steps
     (record {
-      sound = subst (λ (s : WorkersState). IsReadyFor c.args.image.now s d) (sym c.self.view_is)
+      sound = subst (λ (s : WorkersState). IsReadyFor c.args.program.now.image s d) (sym
+          c.self.view_is)
           c.requires.sound;
       up = ap (λ (s : WorkersState). s.down) c.self.view_is ∙ c.requires.up;
       known = subst (λ (s : WorkersState). c.args.worker < length s.tasks) (sym c.self.view_is)
@@ -31,13 +33,16 @@ pub returns-clause-fewer : goal.returns-clause-fewer
 returns-clause-fewer g c =
     let d = g.P.PmemWork.device c.args.dev.now in
     let w : WorkersState = record { tasks = c.self.inside.workers; down = c.self.inside.down } in
-    λ up. subst (λ (s : WorkersState). turns_in c.args.image.now.parts.most c.turn-answer.new.self
-    + busy_one (task_at s.tasks c.args.worker) ≤ turns_in c.args.image.now.parts.most s.tasks)
+    λ up. subst (λ (s : WorkersState). turns_in c.args.program.now.image.parts.most
+    c.turn-answer.new.self
+    + busy_one (task_at s.tasks c.args.worker) ≤ turns_in c.args.program.now.image.parts.most
+    s.tasks)
     c.self.view_is
-    (turn_lower c.args.image.now c.args.worker c.turn-answer.result w c.turn-answer.new.self d
+    (turn_lower c.args.program.now.image c.args.worker c.turn-answer.result w
+    c.turn-answer.new.self d
     (g.P.PmemWork.device c.turn-answer.new.dev) c.args.steps.now c.turn-answer.new.steps
     (record {
-      sound = subst (λ (s : WorkersState). IsReadyFor c.args.image.now s d)
+      sound = subst (λ (s : WorkersState). IsReadyFor c.args.program.now.image s d)
           (sym c.self.view_is) c.requires.sound;
       up = ap (λ (s : WorkersState). s.down) c.self.view_is ∙ c.requires.up;
       known = subst (λ (s : WorkersState). c.args.worker < length s.tasks)

@@ -21,8 +21,8 @@ returns-then-self-clause-does g c =
       lines ++ does.0,
       extends_more c.args.told c.loop-worker.told c.turn-told.result lines does.0
           c.loop-worker.invariant.told does.1,
-      leads_over c.args.image.now (slice_index ws i) (drop (i + 1) ws) ws x z m lines does.0
-          (subst (λ (l : List ℕ). LeadsOn c.args.image.now l ws x z lines)
+      leads_over c.args.program.now (slice_index ws i) (drop (i + 1) ws) ws x z m lines does.0
+          (subst (λ (l : List ℕ). LeadsOn c.args.program.now l ws x z lines)
           (worker_at ws i c.loop-worker-test.true) c.loop-worker.invariant.leads) does.2
           (sym (ap (λ (s : WorkersState). s.down) c.self.view_is) ∙ c.if-self.true),
     )
@@ -50,8 +50,9 @@ loop-worker-preserved g c =
       lines = lines ++ does.0;
       told = extends_more c.args.told c.loop-worker.told c.turn-told.result lines does.0
           c.loop-worker.invariant.told does.1;
-      leads = leads_next c.args.image.now (slice_index ws i) (drop (i + 1) ws) ws x z m lines does.0
-          (subst (λ (l : List ℕ). LeadsOn c.args.image.now l ws x z lines)
+      leads = leads_next c.args.program.now (slice_index ws i) (drop (i + 1) ws) ws x z m lines
+          does.0
+          (subst (λ (l : List ℕ). LeadsOn c.args.program.now l ws x z lines)
           (worker_at ws i c.loop-worker-test.true) c.loop-worker.invariant.leads) does.2 up;
     }
 
@@ -66,7 +67,7 @@ returns-clause-does g c =
       lines ++ [],
       extends_more c.args.told c.loop-worker.told c.loop-worker.told lines []
           c.loop-worker.invariant.told (extends_nothing c.loop-worker.told),
-      leads_end c.args.image.now ws x z lines
-          (subst (λ (l : List ℕ). LeadsOn c.args.image.now l ws x z lines)
+      leads_end c.args.program.now ws x z lines
+          (subst (λ (l : List ℕ). LeadsOn c.args.program.now l ws x z lines)
           (drop_all i ws (omega arith)) c.loop-worker.invariant.leads),
     )

@@ -10,12 +10,12 @@ use Rattle.workers_session.proofs.session.WorkersSession.turn_list.Given as goal
 abbrev pub invariant-loop-worker : goal.invariant-loop-worker
 invariant-loop-worker g l =
     let dev = g.P.PmemWork.device in record {
-      sound : IsReadyFor l.image l.self (dev l.dev);
+      sound : IsReadyFor l.program.image l.self (dev l.dev);
       up : l.self.down ≡ false;
       known : stranger_in (length l.self.tasks) (drop l.worker-index l.workers) ≡ None;
       lines : List WorkersLine;
       told : Extends l.initial.told l.told lines;
-      leads : LeadsOn l.image (drop l.worker-index l.workers) l.workers
+      leads : LeadsOn l.program (drop l.worker-index l.workers) l.workers
           (scene_of l.initial.self (dev l.initial.dev) l.initial.steps)
           (scene_of l.self (dev l.dev) l.steps) lines;
     }
