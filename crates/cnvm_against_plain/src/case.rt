@@ -80,19 +80,21 @@ impl Before {
     }
 }
 
-/// What is wanted of a call that writes `logged` records, and of one whose transaction rolls back.
+/// What is wanted of a call that writes `logged` records, and of one whose transaction rolls back,
+/// or returns `uint64_t`.
 pub(crate) fn wanted_of(
     alloc: Global,
     program: &Program,
     before: &Before,
     plain: &PlainAnswer,
     rolls_back: bool,
+    unsigned: bool,
     logged: u64,
 ) -> Result<Wanted, AllocError> {
     match plain {
         PlainAnswer::Done(pool, value) => {
             let shown = pool_lines_of(alloc, program.typed.shapes(), pool)?;
-            ended(alloc, before, shown, *value, logged)
+            ended(alloc, before, shown, *value, unsigned, logged)
         }
         PlainAnswer::Trap(kind) if rolls_back => undone(alloc, before, *kind),
         PlainAnswer::Trap(kind) => trapped(alloc, before, *kind),
@@ -133,12 +135,22 @@ fn ended(
     before: &Before,
     pool: Text,
     value: i64,
+    unsigned: bool,
     logged: u64,
 ) -> Result<Wanted, AllocError> {
     let last = last_line(alloc, before.number(), value)?;
     let after = Shown { pool, last };
-    let redone = Answer::RecoveredRedone { value, logged };
-    let answers = answers_of(alloc, &Answer::Done { value, logged }, &redone)?;
+    let done = Answer::Done {
+        value,
+        unsigned,
+        logged,
+    };
+    let redone = Answer::RecoveredRedone {
+        value,
+        unsigned,
+        logged,
+    };
+    let answers = answers_of(alloc, &done, &redone)?;
     wanted_with(alloc, before, answers, after)
 }
 

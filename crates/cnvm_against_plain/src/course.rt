@@ -45,7 +45,7 @@ pub(crate) fn wanted_at(
         done: course.done,
         value: course.value,
     };
-    wanted_of(alloc, program, &before, &course.plain, false, logged)
+    wanted_of(alloc, program, &before, &course.plain, false, false, logged)
 }
 
 /// Takes one command of the script. Only a call of the worker does something.

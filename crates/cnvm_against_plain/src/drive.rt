@@ -7,7 +7,7 @@ use crate::tally::{Place, Tally};
 use crate::texts::{answer_line, pool_lines_of};
 use cnvm_compile::{Asked, compile};
 use cnvm_script::{Command, read_script};
-use cnvm_session::{Answer, Program, rolls_back};
+use cnvm_session::{Answer, Program, is_unsigned, rolls_back};
 use interpreter::{PlainAnswer, plain_call};
 use nvm_base::{Steps, Words};
 use pool_map::Pool;
@@ -170,6 +170,17 @@ fn arguments_of(call: &Command) -> u64 {
     }
 }
 
+/// Whether the transaction of a call returns `uint64_t`.
+fn returns_unsigned(program: &Program, call: &Command) -> bool {
+    let Command::Call { name, .. } = call else {
+        return false;
+    };
+    match program.typed.tx_number(name.as_str()) {
+        None => false,
+        Some(tx) => is_unsigned(program, tx),
+    }
+}
+
 /// Compares one call, uncut and cut, and gives the words of the pool after it.
 fn compared<L: Ledger>(
     alloc: Global,
@@ -203,7 +214,9 @@ fn compare_call<L: Ledger>(
     steps: &mut Steps<L>,
 ) -> Result<(), AllocError> {
     let answer = rig.command(alloc, program, call, steps);
-    let wanted = wanted_of(alloc, program, before, plain, marked, logged_of(&answer))?;
+    let unsigned = returns_unsigned(program, call);
+    let logged = logged_of(&answer);
+    let wanted = wanted_of(alloc, program, before, plain, marked, unsigned, logged)?;
     let case = Case {
         program,
         words: before.words.as_slice(),

@@ -279,6 +279,7 @@ fn of_workers<'a>(
         answers: texts.answers,
         opened,
         ended: line_of(traps.ended),
+        undone: line_of(traps.undone),
     };
     workers_answers_note(alloc, run)
 }

@@ -9,7 +9,6 @@ use Rattle.c_tree.specs.ItemTree.{FunctionTree}
 use Rattle.std.specs.Prelude.{ℕ, zero, suc, ◌+◌, ◌-◌, length, slice_get, Option, option_map, ◌*◌}
 use Rattle.std.specs.Prelude.{◌/◌, ◌%◌, ◌^◌, ◌==◌, Bool, true, false, List, [], ◌∷◌, ℤ, pos}
 use Rattle.std.specs.Prelude.{if◌then◌else◌, nat_le}
-use Rattle.cache_model.specs.declared.choice.Rest.{Rest}
 use Rattle.cache_model.specs.declared.choice.Rest.TheVariants.{Old, New}
 use Rattle.cnvm_script.specs.declared.command.Command.{Command}
 use Rattle.cnvm_script.specs.declared.command.Command.TheVariants.{Call, Stop, Power}

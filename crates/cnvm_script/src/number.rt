@@ -1,9 +1,9 @@
 //! Words that are numbers.
 
-ghost use Rattle.std.specs.Prelude.{◌≡◌, ◌≤◌, ◌<◌, ◌*◌, ◌+◌, ◌^◌, IfSome, Some, None};
-ghost use Rattle.std.specs.Prelude.{if◌then◌else◌};
+ghost use Rattle.std.specs.Prelude.{◌≡◌, ◌≤◌, ◌<◌, ◌*◌, ◌+◌, ◌^◌, IfSome, MatchOption, Some};
+ghost use Rattle.std.specs.Prelude.{None, if◌then◌else◌};
 ghost use Rattle.std.specs.Char.{is_ascii_digit, digit_value};
-ghost use Rattle.cnvm_script.specs.Number.{bounded_numeral, at_most, as_positive, as_negative};
+ghost use Rattle.cnvm_script.specs.Number.{bounded_numeral, long_numeral, at_most, as_negative};
 ghost use Rattle.cnvm_script.specs.Number.{argument, event_number, pick_read, pick};
 
 use crate::cut::cut;
@@ -38,20 +38,45 @@ fn digit_of(byte: u8) -> Option<u64>
     None
 }
 
-/// An argument: an optional `-` and digits, within 64 bits with a sign.
+/// A value with one more decimal digit; `None` if that is over 2^64 - 1.
+fn with_digit(value: u64, digit: u64) -> Option<u64>
+    ensures value { MatchOption result (2 ^ 64 ≤ value * 10 + digit)
+        (λ more. more ≡ value * 10 + digit) }
+    ensures small { IfSome result (λ more. more < 2 ^ 64) }
+{
+    value.checked_mul(10)?.checked_add(digit)
+}
+
+/// The value of a numeral of at most 20 digits; `None` if it is over 2^64 - 1.
+#[tactic(auto, using(crate::proofs::Digits::long_numerals))]
+fn long_numeral(word: &[u8]) -> Option<u64>
+    ensures { result ≡ long_numeral word.now }
+{
+    if word.is_empty() || word.len() > 20 {
+        return None;
+    }
+    let mut value = 0u64;
+    for byte in word {
+        let Some(digit) = digit_of(*byte) else {
+            return None;
+        };
+        let Some(more) = with_digit(value, digit) else {
+            return None;
+        };
+        value = more;
+    }
+    Some(value)
+}
+
+/// An argument: an optional `-` and digits, from -2^63 to 2^64 - 1. From 2^63 on it is the word
+/// with the number's bits.
 pub(crate) fn argument(word: &[u8]) -> Option<i64>
     ensures { result ≡ argument word.now }
 {
     if !word.is_empty() && word[0] == b'-' {
-        return as_negative(numeral(&word[1..], 19)?);
+        return as_negative(long_numeral(&word[1..])?);
     }
-    as_positive(numeral(word, 19)?)
-}
-
-fn as_positive(number: u64) -> Option<i64>
-    ensures { result ≡ as_positive number }
-{
-    i64::try_from(number).ok()
+    Some(long_numeral(word)?.cast_signed())
 }
 
 fn as_negative(number: u64) -> Option<i64>

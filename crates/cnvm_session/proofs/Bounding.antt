@@ -25,7 +25,7 @@ use Rattle.cnvm_session.specs.declared.mode.Mode.TheVariants.{Ready, Down, Unusa
 use Rattle.cnvm_session.specs.declared.answer.Answer.{Answer}
 use Rattle.cnvm_session.specs.declared.program.Program.{Program}
 use Rattle.cnvm_session.specs.Marks.{is_marked, rolls_back_of, looks_of, policy_of, has_marked}
-use Rattle.cnvm_session.specs.Marks.{owes_marked}
+use Rattle.cnvm_session.specs.Marks.{owes_marked, unsigned_of, owes_unsigned}
 use Rattle.cnvm_session.specs.Outcomes.{RunsBy, RunsAs, RecoversBy}
 use Rattle.cnvm_session.specs.Commands.{Shows, ShowsDead, Lasts, call_number, tx_parameters}
 use Rattle.cnvm_session.specs.Commands.{CallsWith, CallsTo, CallsNamed, Calls, fallen, Powers}
@@ -72,17 +72,17 @@ recovery_within marks p image k k1 is most =
     recovery_bound marks image k k1
     (subst (λ (q : Policy). k1 ≤ k + image.parts.sizes.records + most_steps q image) is most)
 
-runs_most : (marks : Bool) (image : Image) (tx : ℕ) (args : List ℤ) (d : Device) (a : Answer)
-    (n : Mode) (b : Device) (k k1 : ℕ) → RunsBy marks image tx args d a n b k k1
+runs_most : (marks u : Bool) (image : Image) (tx : ℕ) (args : List ℤ) (d : Device) (a : Answer)
+    (n : Mode) (b : Device) (k k1 : ℕ) → RunsBy marks u image tx args d a n b k k1
     → Few (bounded_steps false image) k k1
-runs_most marks image tx args d a n b k k1 h = call_within (policy_of marks) image k k1
+runs_most marks u image tx args d a n b k k1 h = call_within (policy_of marks) image k k1
     h.called.most
 
-as_most : (looks marks : Bool) (image : Image) (tx : ℕ) (args : List ℤ) (d : Device) (a : Answer)
-    (n : Mode) (b : Device) (k k1 : ℕ) → RunsAs looks marks image tx args d a n b k k1
+as_most : (looks marks u : Bool) (image : Image) (tx : ℕ) (args : List ℤ) (d : Device) (a : Answer)
+    (n : Mode) (b : Device) (k k1 : ℕ) → RunsAs looks marks u image tx args d a n b k k1
     → Few (bounded_steps false image) k k1
-as_most true marks image tx args d a n b k k1 h = look_within image k k1 h.most
-as_most false marks image tx args d a n b k k1 h = runs_most marks image tx args d a n b k k1 h
+as_most true marks u image tx args d a n b k k1 h = look_within image k k1 h.most
+as_most false marks u image tx args d a n b k k1 h = runs_most marks u image tx args d a n b k k1 h
 
 module _ (program : Program) (args : List ℤ) (d : Device) (a : Answer) (n : Mode) (b : Device)
     (k k1 : ℕ) where
@@ -91,7 +91,8 @@ module _ (program : Program) (args : List ℤ) (d : Device) (a : Answer) (n : Mo
 
   with_count : (same : Bool) (tx : ℕ) → CallsWith same program tx args d a n b k k1 → Few most k k1
   with_count true tx h =
-      as_most (looks_of program tx) (rolls_back_of program tx) program.image tx args d a n b k k1 h
+      as_most (looks_of program tx) (rolls_back_of program tx) (unsigned_of program tx)
+      program.image tx args d a n b k k1 h
   with_count false tx h = none most k k1 h.3
 
   to_number : (count : Option ℕ) (tx : ℕ) → CallsTo count program tx args d a n b k k1 →
@@ -111,9 +112,10 @@ call_most program name args Ready d a n b k k1 h =
 call_most program name args Down d a n b k k1 h = none _ k k1 h.3
 call_most program name args (Unusable kind) d a n b k k1 h = none _ k k1 h.3
 
-pub recovers_most : (marks : Bool) (image : Image) (d : Device) (a : Answer) (n : Mode) (b : Device)
-    (k k1 : ℕ) → RecoversBy marks image d a n b k k1 → Few (bounded_steps marks image) k k1
-recovers_most marks image d a n b k k1 h = recovery_within marks (policy_of marks) image k k1 refl
+pub recovers_most : (marks u : Bool) (image : Image) (d : Device) (a : Answer) (n : Mode)
+    (b : Device) (k k1 : ℕ) → RecoversBy marks u image d a n b k k1
+    → Few (bounded_steps marks image) k k1
+recovers_most marks u image d a n b k k1 h = recovery_within marks (policy_of marks) image k k1 refl
     h.recovered.most
 
 power_most : (program : Program) (choice : Choice) (m : Mode) (d : Device) (a : Answer) (n : Mode)
@@ -126,8 +128,9 @@ power_most program choice m d a n b k k1 (Some line) pick falls is h =
 power_most program choice m d a n b k k1 None (Some line) rise is h =
     none _ k k1 (h.1 line rise is).3
 power_most program choice m d a n b k k1 None None rise is h =
-    recovers_most (owes_marked program (powered choice d)) program.image (powered choice d) a n b k
-    k1 (h.2 rise is)
+    recovers_most (owes_marked program (powered choice d))
+    (owes_unsigned program (powered choice d)) program.image (powered choice d) a n b k k1
+    (h.2 rise is)
 
 show_most : (most : ℕ) (shapes : Shapes) (s : Sizes) (m : Mode) (d : Device) (a : Answer)
     (n : Mode) (b : Device) (k k1 : ℕ) →

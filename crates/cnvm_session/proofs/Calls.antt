@@ -1,5 +1,5 @@
 -- The count of faults in a call, and in a look.
-use Rattle.std.proofs.Common.{ℕ, List, ℤ, ◌≡◌, ◌≤◌, ◌∙◌, sym}
+use Rattle.std.proofs.Common.{ℕ, Bool, List, ℤ, ◌≡◌, ◌≤◌, ◌∙◌, sym}
 use Rattle.pmem.specs.Device.{Device, FaultsRose}
 use Rattle.pmem.proofs.Parts.{same_rise}
 use Rattle.pmem.specs.declared.answer.Phase.TheVariants as phase
@@ -17,45 +17,45 @@ use Rattle.cnvm_session.specs.Outcomes.{answer_of_call, answer_of_look}
 use Rattle.cnvm_session.proofs.Cases.{by_standing}
 use Rattle.cnvm_session.proofs.Faults.{Counts, counts_all, counts_part, counts_failed, counts_same}
 
-called_counts : (r : CallAnswer) (p : Policy) (image : Image) (tx : ℕ) (args : List ℤ)
-    (d b : Device) (k k1 : ℕ) → Called r p image tx args d b k k1 → Counts (answer_of_call r) d b
-called_counts (called.Done v l) p image tx args d b k k1 h =
+called_counts : (u : Bool) (r : CallAnswer) (p : Policy) (image : Image) (tx : ℕ) (args : List ℤ)
+    (d b : Device) (k k1 : ℕ) → Called r p image tx args d b k k1 → Counts (answer_of_call u r) d b
+called_counts u (called.Done v l) p image tx args d b k k1 h =
     counts_all _ d _ b (λ e. absurd cc) h.0.played
-called_counts (called.Trap t) p image tx args d b k k1 h =
+called_counts u (called.Trap t) p image tx args d b k k1 h =
     counts_all _ d _ b (λ e. absurd cc) h.1.played
-called_counts (called.Aborted t) p image tx args d b k k1 h =
+called_counts u (called.Aborted t) p image tx args d b k k1 h =
     counts_all _ d _ b (λ e. absurd cc) h.1.played
-called_counts (called.Off q) p image tx args d b k k1 h =
+called_counts u (called.Off q) p image tx args d b k k1 h =
     counts_part _ refusal.Off d _ b (λ e. absurd cc) h.0
-called_counts called.Failed p image tx args d b k k1 h = counts_failed _ d _ b h
-called_counts called.NoMemory p image tx args d b k k1 h =
+called_counts u called.Failed p image tx args d b k k1 h = counts_failed _ d _ b h
+called_counts u called.NoMemory p image tx args d b k k1 h =
     counts_part _ refusal.NoMemory d _ b (λ e. absurd cc) h
-called_counts (called.Unusable t) p image tx args d b k k1 h = absurd h
-called_counts called.Numbers p image tx args d b k k1 h = absurd h
+called_counts u (called.Unusable t) p image tx args d b k k1 h = absurd h
+called_counts u called.Numbers p image tx args d b k k1 h = absurd h
 
-pub call_counts : (r : CallAnswer) (p : Policy) (image : Image) (tx : ℕ) (args : List ℤ)
+pub call_counts : (u : Bool) (r : CallAnswer) (p : Policy) (image : Image) (tx : ℕ) (args : List ℤ)
     (d b : Device) (k k1 : ℕ) → IsTxCalled r p image tx args d b k k1
-    → Counts (answer_of_call r) d b
-call_counts r p image tx args d b k k1 h =
-    by_standing (Counts (answer_of_call r) d b) d
-    (λ on is. called_counts r p image tx args d b k k1 (h.ready on is))
+    → Counts (answer_of_call u r) d b
+call_counts u r p image tx args d b k k1 h =
+    by_standing (Counts (answer_of_call u r) d b) d
+    (λ on is. called_counts u r p image tx args d b k k1 (h.ready on is))
     (λ kind on is. let same = h.unusable kind on is in
-    counts_same answer_of_call r (called.Unusable kind) d b same.0 (λ e. absurd cc) same.1)
+    counts_same (answer_of_call u) r (called.Unusable kind) d b same.0 (λ e. absurd cc) same.1)
     (λ on is. let same = h.numbers on is in
-    counts_same answer_of_call r called.Numbers d b same.0 (λ e. absurd cc) same.1)
+    counts_same (answer_of_call u) r called.Numbers d b same.0 (λ e. absurd cc) same.1)
     (λ off. let same = h.off off in
-    counts_same answer_of_call r (called.Off phase.Unsealed) d b same.0 (λ e. absurd cc) same.1)
+    counts_same (answer_of_call u) r (called.Off phase.Unsealed) d b same.0 (λ e. absurd cc) same.1)
 
-never_failed : (r : LookAnswer) → answer_of_look r ≡ answer.DeviceFault → ⊥
-never_failed (looked.Done v) is = absurd cc
-never_failed (looked.Aborted t) is = absurd cc
-never_failed looked.Off is = absurd cc
-never_failed looked.NoMemory is = absurd cc
+never_failed : (u : Bool) (r : LookAnswer) → answer_of_look u r ≡ answer.DeviceFault → ⊥
+never_failed u (looked.Done v) is = absurd cc
+never_failed u (looked.Aborted t) is = absurd cc
+never_failed u looked.Off is = absurd cc
+never_failed u looked.NoMemory is = absurd cc
 
 -- a look is never answered with a fault of the device
-pub look_no_fault : (r : LookAnswer) (a : Answer) → a ≡ answer_of_look r
+pub look_no_fault : (u : Bool) (r : LookAnswer) (a : Answer) → a ≡ answer_of_look u r
     → a ≡ answer.DeviceFault → ⊥
-look_no_fault r a is fault = never_failed r (sym is ∙ fault)
+look_no_fault u r a is fault = never_failed u r (sym is ∙ fault)
 
 -- so its device's count of faults did what any call's does
 pub look_counts : (d b : Device) → b ≡ d → d.faults ≤ b.faults

@@ -1,4 +1,4 @@
--- The mark of the transaction of a number, as the tree gives it.
+-- The mark and the type of the transaction of a number, as the tree gives them.
 use Rattle.std.proofs.Common.{◌≡◌, ◌-◌, ◌<◌, ◌≤◌, ℕ, zero, suc, Bool, false, Option, Some, None}
 use Rattle.std.proofs.Common.{length, option_map, slice_get, refl, sym, ap, subst, arith}
 use Rattle.std.proofs.lemmas.Option.{slice_get_past}
@@ -7,7 +7,8 @@ use Rattle.c_tree.specs.ItemTree.{FunctionTree}
 use Rattle.c_types.specs.Shapes.{transactions_of}
 use Rattle.c_types.specs.Transactions.{is_const}
 use Rattle.cnvm_session.specs.declared.program.Program.{Program}
-use Rattle.cnvm_session.specs.Marks.{is_marked, rolls_back_of, looks_of}
+use Rattle.cnvm_session.specs.Marks.{is_marked, rolls_back_of, looks_of, returns_unsigned}
+use Rattle.cnvm_session.specs.Marks.{unsigned_of}
 
 found : (p : FunctionTree → Bool) (o : Option FunctionTree) (r : Bool) → Some r ≡ option_map p o
     → r ≡ option_map_or p o false
@@ -66,6 +67,23 @@ pub look_past : (program : Program) (tx : ℕ) → length (transactions_of progr
 look_past program zero less = refl
 look_past program (suc i) less = past_at only_looks program i less
 
+pub unsigned_found : (program : Program) (tx : ℕ) (r : Bool) → 1 ≤ tx
+    → Some r ≡ option_map returns_unsigned (slice_get (transactions_of program.typed) (tx - 1))
+    → r ≡ unsigned_of program tx
+unsigned_found program zero r first is = absurd (omega arith)
+unsigned_found program (suc i) r first is = found_at returns_unsigned program i r is
+
+pub unsigned_first : (program : Program) (tx : ℕ) → tx < 1 → false ≡ unsigned_of program tx
+unsigned_first program zero less = refl
+unsigned_first program (suc i) less = absurd (omega arith)
+
+pub unsigned_past : (program : Program) (tx : ℕ) → length (transactions_of program.typed) < tx
+    → false ≡ unsigned_of program tx
+unsigned_past program zero less = refl
+unsigned_past program (suc i) less = past_at returns_unsigned program i less
+
 pub ruleset marks = (mark_found, mark_first, mark_past)
 
 pub ruleset looking = (look_found, look_first, look_past)
+
+pub ruleset types = (unsigned_found, unsigned_first, unsigned_past)

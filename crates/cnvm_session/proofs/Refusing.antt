@@ -31,6 +31,7 @@ use Rattle.cnvm_session.specs.declared.answer.Answer.{Answer}
 use Rattle.cnvm_session.specs.declared.answer.Answer.TheVariants as answer
 use Rattle.cnvm_session.specs.declared.program.Program.{Program}
 use Rattle.cnvm_session.specs.Marks.{rolls_back_of, looks_of, policy_of, owes_marked}
+use Rattle.cnvm_session.specs.Marks.{unsigned_of, owes_unsigned}
 use Rattle.cnvm_session.specs.Outcomes.{RunsBy, RunsAs, answer_of_call, mode_of_call, RecoversBy}
 use Rattle.cnvm_session.specs.Outcomes.{answer_of_look, answer_of_recovery}
 use Rattle.cnvm_session.specs.Commands.{Refused, Tells, Shows, ShowsDead, Lasts, call_number}
@@ -66,16 +67,17 @@ marked w t e =
     )
 
 -- an accepted call is refused only for the pool's mark or its numbers
-by_answer : (r : CallAnswer) (p : Policy) (image : Image) (tx : ℕ) (args : List ℤ) (d b : Device)
-    (k k1 : ℕ) → IsRefusal (answer_of_call r) → Called r p image tx args d b k k1 → ⊥
-by_answer (called.Done v l) p image tx args d b k k1 is h = is
-by_answer (called.Trap t) p image tx args d b k k1 is h = is
-by_answer (called.Aborted t) p image tx args d b k k1 is h = is
-by_answer (called.Off q) p image tx args d b k k1 is h = is
-by_answer called.Failed p image tx args d b k k1 is h = is
-by_answer called.NoMemory p image tx args d b k k1 is h = is
-by_answer (called.Unusable t) p image tx args d b k k1 is h = h
-by_answer called.Numbers p image tx args d b k k1 is h = h
+by_answer : (u : Bool) (r : CallAnswer) (p : Policy) (image : Image) (tx : ℕ) (args : List ℤ)
+    (d b : Device) (k k1 : ℕ) → IsRefusal (answer_of_call u r) → Called r p image tx args d b k k1
+    → ⊥
+by_answer u (called.Done v l) p image tx args d b k k1 is h = is
+by_answer u (called.Trap t) p image tx args d b k k1 is h = is
+by_answer u (called.Aborted t) p image tx args d b k k1 is h = is
+by_answer u (called.Off q) p image tx args d b k k1 is h = is
+by_answer u called.Failed p image tx args d b k k1 is h = is
+by_answer u called.NoMemory p image tx args d b k k1 is h = is
+by_answer u (called.Unusable t) p image tx args d b k k1 is h = h
+by_answer u called.Numbers p image tx args d b k k1 is h = h
 
 -- a call that found the mark, or the numbers at their end
 unusable_kept : (t : TrapKind) (d : Device) (n : Mode) (b : Device) (k k1 : ℕ)
@@ -86,44 +88,44 @@ unusable_kept t d n b k k1 e mode same steps =
     (same, inr (refl, mark.0, mode ∙ ap Unusable mark.1), steps)
 
 runs_kept :
-    (marks : Bool) (image : Image) (tx : ℕ) (args : List ℤ) (d : Device) (a : Answer) (n : Mode)
+    (marks u : Bool) (image : Image) (tx : ℕ) (args : List ℤ) (d : Device) (a : Answer) (n : Mode)
     (b : Device) (k k1 : ℕ) →
-    IsRefusal a → RunsBy marks image tx args d a n b k k1 → Kept Ready d n b k k1
-runs_kept marks image tx args d a n b k k1 is h =
+    IsRefusal a → RunsBy marks u image tx args d a n b k k1 → Kept Ready d n b k k1
+runs_kept marks u image tx args d a n b k k1 is h =
     let r : CallAnswer = h.tx_answer in
-    let refused : IsRefusal (answer_of_call r) = subst IsRefusal h.answer is in
+    let refused : IsRefusal (answer_of_call u r) = subst IsRefusal h.answer is in
     by_standing (Kept Ready d n b k k1) d
-    (λ on e. absurd (by_answer r (policy_of marks) image tx args d b k k1 refused
+    (λ on e. absurd (by_answer u r (policy_of marks) image tx args d b k k1 refused
     (h.called.ready on e)))
     (λ t on e. let same = h.called.unusable t on e in
     unusable_kept t d n b k k1 e (h.mode ∙ ap mode_of_call same.0) same.1 same.2)
     (λ on e. let same = h.called.numbers on e in
     (same.1, inl (h.mode ∙ ap mode_of_call same.0), same.2))
-    (λ off. absurd (subst (λ (x : CallAnswer). IsRefusal (answer_of_call x))
+    (λ off. absurd (subst (λ (x : CallAnswer). IsRefusal (answer_of_call u x))
     ((h.called.off off).0) refused))
 
 -- a look is never refused
-no_refusal : (r : LookAnswer) → IsRefusal (answer_of_look r) → ⊥
-no_refusal (looked.Done v) is = is
-no_refusal (looked.Aborted t) is = is
-no_refusal looked.Off is = is
-no_refusal looked.NoMemory is = is
+no_refusal : (u : Bool) (r : LookAnswer) → IsRefusal (answer_of_look u r) → ⊥
+no_refusal u (looked.Done v) is = is
+no_refusal u (looked.Aborted t) is = is
+no_refusal u looked.Off is = is
+no_refusal u looked.NoMemory is = is
 
-as_kept : (looks marks : Bool) (image : Image) (tx : ℕ) (args : List ℤ) (d : Device) (a : Answer)
+as_kept : (looks marks u : Bool) (image : Image) (tx : ℕ) (args : List ℤ) (d : Device) (a : Answer)
     (n : Mode) (b : Device) (k k1 : ℕ) →
-    IsRefusal a → RunsAs looks marks image tx args d a n b k k1 → Kept Ready d n b k k1
-as_kept true marks image tx args d a n b k k1 is h =
-    absurd (no_refusal h.seen (subst IsRefusal h.answer is))
-as_kept false marks image tx args d a n b k k1 is h =
-    runs_kept marks image tx args d a n b k k1 is h
+    IsRefusal a → RunsAs looks marks u image tx args d a n b k k1 → Kept Ready d n b k k1
+as_kept true marks u image tx args d a n b k k1 is h =
+    absurd (no_refusal u h.seen (subst IsRefusal h.answer is))
+as_kept false marks u image tx args d a n b k k1 is h =
+    runs_kept marks u image tx args d a n b k k1 is h
 
 module _ (program : Program) (args : List ℤ) (d : Device) (a : Answer) (n : Mode) (b : Device)
     (k k1 : ℕ) (is : IsRefusal a) where
   by_count : (same : Bool) (tx : ℕ) → CallsWith same program tx args d a n b k k1 →
       Kept Ready d n b k k1
   by_count true tx h =
-      as_kept (looks_of program tx) (rolls_back_of program tx) program.image tx args d a n b k k1
-      is h
+      as_kept (looks_of program tx) (rolls_back_of program tx) (unsigned_of program tx)
+      program.image tx args d a n b k k1 is h
   by_count false tx h = refused_kept answer.RefusedArity Ready d a n b k k1 h
 
   by_parameters : (count : Option ℕ) (tx : ℕ) → CallsTo count program tx args d a n b k k1 →
@@ -151,13 +153,13 @@ tells_ready : (shapes : Shapes) (s : Sizes) (d : Device) (a : Answer) (n : Mode)
 tells_ready shapes s d (answer.Shown text) n is h = h.1
 tells_ready shapes s d answer.NoMemory n is h = absurd is
 tells_ready shapes s d answer.Silent n is h = absurd h
-tells_ready shapes s d (answer.Done v l) n is h = absurd h
+tells_ready shapes s d (answer.Done v u l) n is h = absurd h
 tells_ready shapes s d (answer.Trap t) n is h = absurd h
 tells_ready shapes s d (answer.Aborted t) n is h = absurd h
 tells_ready shapes s d (answer.Stopped p) n is h = absurd h
 tells_ready shapes s d answer.DeviceFault n is h = absurd h
 tells_ready shapes s d answer.RecoveredNone n is h = absurd h
-tells_ready shapes s d (answer.RecoveredRedone v l) n is h = absurd h
+tells_ready shapes s d (answer.RecoveredRedone v u l) n is h = absurd h
 tells_ready shapes s d (answer.RecoveredTrap t) n is h = absurd h
 tells_ready shapes s d (answer.RecoveredAborted t) n is h = absurd h
 tells_ready shapes s d (answer.ShownDead t text) n is h = absurd h
@@ -196,20 +198,21 @@ lasts_kept (Unusable kind) d a n b k k1 h =
     refused_kept (answer.RefusedUnusable kind) (Unusable kind) d a n b k k1 h
 
 -- a recovery never answers that a pick is bad
-no_pick : (r : RecoverAnswer) → IsBadPick (answer_of_recovery r) → ⊥
-no_pick recovered.Clean is = is
-no_pick (recovered.Redone v l) is = is
-no_pick (recovered.Trap t) is = is
-no_pick (recovered.Aborted t) is = is
-no_pick (recovered.Unusable t) is = is
-no_pick recovered.Numbers is = is
-no_pick (recovered.Off p) is = is
-no_pick recovered.Failed is = is
-no_pick recovered.NoMemory is = is
+no_pick : (u : Bool) (r : RecoverAnswer) → IsBadPick (answer_of_recovery u r) → ⊥
+no_pick u recovered.Clean is = is
+no_pick u (recovered.Redone v l) is = is
+no_pick u (recovered.Trap t) is = is
+no_pick u (recovered.Aborted t) is = is
+no_pick u (recovered.Unusable t) is = is
+no_pick u recovered.Numbers is = is
+no_pick u (recovered.Off p) is = is
+no_pick u recovered.Failed is = is
+no_pick u recovered.NoMemory is = is
 
-recovers_no_pick : (marks : Bool) (image : Image) (d : Device) (a : Answer) (n : Mode) (b : Device)
-    (k k1 : ℕ) → IsBadPick a → RecoversBy marks image d a n b k k1 → ⊥
-recovers_no_pick marks image d a n b k k1 is h = no_pick h.tx_answer (subst IsBadPick h.answer is)
+recovers_no_pick : (marks u : Bool) (image : Image) (d : Device) (a : Answer) (n : Mode)
+    (b : Device) (k k1 : ℕ) → IsBadPick a → RecoversBy marks u image d a n b k k1 → ⊥
+recovers_no_pick marks u image d a n b k k1 is h =
+    no_pick u h.tx_answer (subst IsBadPick h.answer is)
 
 powers_kept : (program : Program) (choice : Choice) (m : Mode) (d : Device) (a : Answer) (n : Mode)
     (b : Device) (k k1 : ℕ) (first pick : Option ℕ) → fallen 0 choice.picks ≡ first
@@ -220,8 +223,9 @@ powers_kept program choice m d a n b k k1 (Some line) pick falls e is h =
 powers_kept program choice m d a n b k k1 None (Some line) rise e is h =
     refused_kept (answer.RefusedPick line) m d a n b k k1 (h.1 line rise e)
 powers_kept program choice m d a n b k k1 None None rise e is h =
-    absurd (recovers_no_pick (owes_marked program (powered choice d)) program.image
-    (powered choice d) a n b k k1 is (h.2 rise e))
+    absurd (recovers_no_pick (owes_marked program (powered choice d))
+    (owes_unsigned program (powered choice d)) program.image (powered choice d) a n b k k1 is
+    (h.2 rise e))
 
 pub command_kept :
     (program : Program) (c : Command) (m n : Mode) (d b : Device) (a : Answer) (k k1 : ℕ) →

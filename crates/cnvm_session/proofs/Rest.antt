@@ -31,7 +31,7 @@ use Rattle.cnvm_session.specs.declared.mode.Mode.TheVariants as mode
 use Rattle.cnvm_session.specs.declared.answer.Answer.{Answer}
 use Rattle.cnvm_session.specs.declared.answer.Answer.TheVariants as answer
 use Rattle.cnvm_session.specs.declared.program.Program.{Program}
-use Rattle.cnvm_session.specs.Marks.{rolls_back_of}
+use Rattle.cnvm_session.specs.Marks.{rolls_back_of, owes_unsigned}
 use Rattle.cnvm_session.specs.Outcomes.{RecoversBy, Recovers}
 use Rattle.cnvm_session.specs.Outcomes.{answer_of_recovery, mode_of_recovery}
 use Rattle.cnvm_session.specs.Laws.{TellTheSame, IsQuiet, IsCacheAtRest, OwesNothing}
@@ -110,23 +110,24 @@ clean_attempts : (s : Sizes) (n : ℕ) (c : Cache) → Attempts (due_clean s n c
 clean_attempts s zero c = tt
 clean_attempts s (suc n) c = (refl, tt)
 
-cleaned_alike : (s : Sizes) (r : RecoverAnswer) (d : Device) (es : List CacheEvent) (b : Device)
+cleaned_alike : (s : Sizes) (u : Bool) (r : RecoverAnswer) (d : Device) (es : List CacheEvent)
+    (b : Device)
     → Attempts es → Cleaned r d es b
-    → TellTheSame s (view b.cache) (view d.cache) × OwesNothing (answer_of_recovery r)
+    → TellTheSame s (view b.cache) (view d.cache) × OwesNothing (answer_of_recovery u r)
     (mode_of_recovery r)
-cleaned_alike s recovered.Clean d es b only h = (alike_all s d es b only h, refl)
-cleaned_alike s (recovered.Off phase.Unsealed) d es b only h =
+cleaned_alike s u recovered.Clean d es b only h = (alike_all s d es b only h, refl)
+cleaned_alike s u (recovered.Off phase.Unsealed) d es b only h =
     (alike_part s refusal.Off d es b only h, refl)
-cleaned_alike s (recovered.Off phase.Sealing) d es b only h = absurd h
-cleaned_alike s (recovered.Off phase.Sealed) d es b only h = absurd h
-cleaned_alike s recovered.Failed d es b only h = (alike_part s refusal.Failed d es b only h, refl)
-cleaned_alike s recovered.NoMemory d es b only h =
+cleaned_alike s u (recovered.Off phase.Sealing) d es b only h = absurd h
+cleaned_alike s u (recovered.Off phase.Sealed) d es b only h = absurd h
+cleaned_alike s u recovered.Failed d es b only h = (alike_part s refusal.Failed d es b only h, refl)
+cleaned_alike s u recovered.NoMemory d es b only h =
     (alike_part s refusal.NoMemory d es b only h, refl)
-cleaned_alike s (recovered.Redone v l) d es b only h = absurd h
-cleaned_alike s (recovered.Trap t) d es b only h = absurd h
-cleaned_alike s (recovered.Aborted t) d es b only h = absurd h
-cleaned_alike s (recovered.Unusable t) d es b only h = absurd h
-cleaned_alike s recovered.Numbers d es b only h = absurd h
+cleaned_alike s u (recovered.Redone v l) d es b only h = absurd h
+cleaned_alike s u (recovered.Trap t) d es b only h = absurd h
+cleaned_alike s u (recovered.Aborted t) d es b only h = absurd h
+cleaned_alike s u (recovered.Unusable t) d es b only h = absurd h
+cleaned_alike s u recovered.Numbers d es b only h = absurd h
 
 -- a recovery without events
 cleaned_none : (r : RecoverAnswer) (d b : Device) → Cleaned r d [] b
@@ -152,12 +153,15 @@ module _ (program : Program) (choice : Choice) (n : Mode) (d b : Device) (a : An
   abbrev left : Device
   left = powered choice d
 
+  abbrev owes : Bool
+  owes = owes_unsigned program left
+
   quiet : IsQuiet s (view left.cache)
   quiet = rests.quiet (view left.cache) (left_image d.cache choice.rest choice.picks)
 
   -- nothing is sealed, so no marked transaction is owed
-  recovers : RecoversBy false program.image left a n b k k1
-  recovers = subst (λ (marks : Bool). RecoversBy marks program.image left a n b k k1)
+  recovers : RecoversBy false owes program.image left a n b k k1
+  recovers = subst (λ (marks : Bool). RecoversBy marks owes program.image left a n b k k1)
       (ap (λ (sealed : Bool). sealed && rolls_back_of program (tx_in left)) quiet.unsealed) does
 
   cleaned : Cleaned recovers.tx_answer left (due_clean s (count_in s (view left.cache)) left.cache)
@@ -165,8 +169,9 @@ module _ (program : Program) (choice : Choice) (n : Mode) (d b : Device) (a : An
   cleaned = recovers.recovered.clean refl quiet.mark quiet.numbers quiet.unsealed
 
   told : TellTheSame s (view b.cache) (view left.cache)
-      × OwesNothing (answer_of_recovery recovers.tx_answer) (mode_of_recovery recovers.tx_answer)
-  told = cleaned_alike s recovers.tx_answer left _ b
+      × OwesNothing (answer_of_recovery owes recovers.tx_answer)
+      (mode_of_recovery recovers.tx_answer)
+  told = cleaned_alike s owes recovers.tx_answer left _ b
       (clean_attempts s (count_in s (view left.cache)) left.cache) cleaned
 
   pub rest_alike : TellTheSame s (view b.cache) (view d.cache)
@@ -175,7 +180,7 @@ module _ (program : Program) (choice : Choice) (n : Mode) (d b : Device) (a : An
 
   pub rest_owes : OwesNothing a n
   rest_owes = subst (λ (x : Answer). OwesNothing x n) (sym recovers.answer)
-      (subst (λ (x : Mode). OwesNothing (answer_of_recovery recovers.tx_answer) x)
+      (subst (λ (x : Mode). OwesNothing (answer_of_recovery owes recovers.tx_answer) x)
       (sym recovers.mode) told.1)
 
   pub rest_none : Images (λ i. count_in s i ≡ 0) d.cache → (a ≡ answer.RecoveredNone)
@@ -186,7 +191,7 @@ module _ (program : Program) (choice : Choice) (n : Mode) (d b : Device) (a : An
       let ends = cleaned_none recovers.tx_answer left b
       (subst (λ (m : ℕ). Cleaned recovers.tx_answer left (due_clean s m left.cache) b) counted
       cleaned) in (
-        recovers.answer ∙ ap answer_of_recovery ends.0,
+        recovers.answer ∙ ap (answer_of_recovery owes) ends.0,
         recovers.mode ∙ ap mode_of_recovery ends.0,
         ends.1,
       )

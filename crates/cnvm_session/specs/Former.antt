@@ -6,14 +6,21 @@ use Rattle.std.specs.Prelude.{if◌then◌else◌, ◌&&◌, slice_get}
 use Rattle.std.specs.Option.{option_map_or}
 use Rattle.std.specs.Ordering.{int_eq}
 use Rattle.std.specs.Str.{bytes_eq}
+use Rattle.c_tree.specs.declared.expr.IntType.{IntType}
+use Rattle.c_tree.specs.declared.expr.IntType.TheVariants.{Signed, Unsigned}
 use Rattle.c_tree.specs.ItemTree.{FieldTree, LengthTree}
 use Rattle.c_tree.specs.StmtTree.{TypeTree, Int, Pointer}
 use Rattle.c_tree.specs.Program.{Program, tree_of}
 use Rattle.c_types.specs.Tables.{Tables, StructTree, RootTree, tables_of}
 use Rattle.c_types.specs.Shapes.{root_fields, numbered}
 
+abbrev pub is_same_int : IntType → IntType → Bool
+is_same_int Signed Signed = true
+is_same_int Unsigned Unsigned = true
+is_same_int _ _ = false
+
 abbrev pub is_same_type : TypeTree → TypeTree → Bool
-is_same_type Int Int = true
+is_same_type (Int m) (Int n) = is_same_int m n
 is_same_type (Pointer a) (Pointer b) = bytes_eq a.text b.text
 is_same_type _ _ = false
 

@@ -9,8 +9,13 @@ use pool_map::TrapKind;
 pub enum Answer {
     /// `stop` and `fault` have no answer line.
     Silent,
-    /// The transaction ended with this value; its run wrote `logged` log records.
-    Done { value: i64, logged: u64 },
+    /// The transaction ended with this value, whose type is `uint64_t` if `unsigned`; its run wrote
+    /// `logged` log records.
+    Done {
+        value: i64,
+        unsigned: bool,
+        logged: u64,
+    },
     /// The transaction trapped.
     Trap(TrapKind),
     /// The transaction is marked `abort` and trapped: the pool's heap and last value are those from
@@ -23,7 +28,11 @@ pub enum Answer {
     /// Nothing was owed.
     RecoveredNone,
     /// The owed transaction was run again, and ended with a value.
-    RecoveredRedone { value: i64, logged: u64 },
+    RecoveredRedone {
+        value: i64,
+        unsigned: bool,
+        logged: u64,
+    },
     /// The owed transaction was run again, and trapped.
     RecoveredTrap(TrapKind),
     /// The owed transaction is marked `abort`, was run again and trapped: the pool's heap and last
@@ -32,9 +41,15 @@ pub enum Answer {
     /// The lines of the pool.
     Shown(Text),
     /// The lines of a pool that this trap has ended.
-    ShownDead { kind: TrapKind, text: Text },
+    ShownDead {
+        kind: TrapKind,
+        text: Text,
+    },
     /// How many transactions are done, and the value of the last.
-    Last { done: i64, value: i64 },
+    Last {
+        done: i64,
+        value: i64,
+    },
     /// There was no memory for the command.
     NoMemory,
     /// The session is down, and waits for `power`.

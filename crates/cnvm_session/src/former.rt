@@ -8,6 +8,7 @@ ghost use Rattle.c_types.specs.Shapes as shapes;
 ghost use Rattle.c_types.specs.Views.{tables_in};
 
 use crate::text::text_of;
+use c_tree::expr::IntType;
 use c_tree::item::{Field, Length};
 use c_tree::stmt::TypeName;
 use c_types::{Layout, Program, Typed};
@@ -136,12 +137,22 @@ fn is_same_field(former: &Field, new: &Field) -> bool
         && is_same_length(&former.length, &new.length)
 }
 
-/// Whether both are numbers, or pointers to structs of one name.
+/// Whether both are the same type of ints.
+fn is_same_int(former: IntType, new: IntType) -> bool
+    ensures { result ≡ former_is.is_same_int former new }
+{
+    match (former, new) {
+        (IntType::Signed, IntType::Signed) | (IntType::Unsigned, IntType::Unsigned) => true,
+        (IntType::Signed, IntType::Unsigned) | (IntType::Unsigned, IntType::Signed) => false,
+    }
+}
+
+/// Whether both are the same type of ints, or pointers to structs of one name.
 fn is_same_type(former: &TypeName, new: &TypeName) -> bool
     ensures { result ≡ former_is.is_same_type (type_tree former.now) (type_tree new.now) }
 {
     match (former, new) {
-        (TypeName::Int, TypeName::Int) => true,
+        (TypeName::Int(former), TypeName::Int(new)) => is_same_int(*former, *new),
         (TypeName::Pointer(former), TypeName::Pointer(new)) => {
             former.text.as_str() == new.text.as_str()
         }

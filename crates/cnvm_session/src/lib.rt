@@ -23,7 +23,7 @@ pub use answer::Answer;
 pub use creating::StartFault;
 pub use former::first_other;
 pub use law::laws;
-pub use marks::{looks, owes_marked, policy_of, rolls_back};
+pub use marks::{is_unsigned, looks, owes_marked, owes_unsigned, policy_of, rolls_back};
 pub use mode::Mode;
 pub use moving::move_pool;
 pub use opening::{open_lines, open_pool};

@@ -1,9 +1,11 @@
-//! Which transactions are marked `abort` or `const`, and whether a pool owes one of the former.
+//! Which transactions are marked `abort` or `const`, or return `uint64_t`, and whether a pool owes
+//! one of the first or the last.
 
 ghost use Rattle.std.specs.Prelude.{◌≡◌, ◌≤◌, true};
 ghost use Rattle.cache_model.specs.Cache.{view};
 ghost use Rattle.pool_layout.specs.Image.{is_sealed};
 ghost use Rattle.cnvm_session.specs.Marks.{rolls_back_of, looks_of, policy_of, owes_marked};
+ghost use Rattle.cnvm_session.specs.Marks.{unsigned_of, owes_unsigned};
 
 use crate::program::Program;
 use args_log::{PendingAnswer, pending};
@@ -54,6 +56,30 @@ pub fn owes_marked<P: PmemWork>(program: &Program, dev: &P) -> bool
 {
     match pending(dev) {
         PendingAnswer::Sealed { tx, args: _ } => rolls_back(program, tx),
+        PendingAnswer::Nothing | PendingAnswer::Off => false,
+    }
+}
+
+/// Whether the transaction of that number returns `uint64_t`; no number past the last does.
+#[tactic(auto, using(crate::proofs::Marking::types))]
+pub fn is_unsigned(program: &Program, tx: u64) -> bool
+    ensures { result ≡ unsigned_of program.now tx }
+{
+    if tx < 1 || program.typed.txs() < tx {
+        false
+    } else {
+        program.typed.unsigned(tx)
+    }
+}
+
+/// Whether a pool is sealed with a transaction that returns `uint64_t`.
+pub fn owes_unsigned<P: PmemWork>(program: &Program, dev: &P) -> bool
+    requires lines { 6 ≤ (P.device dev.now).lines }
+    requires on { (P.device dev.now).on ≡ true }
+    ensures value { result ≡ owes_unsigned program.now (P.device dev.now) }
+{
+    match pending(dev) {
+        PendingAnswer::Sealed { tx, args: _ } => is_unsigned(program, tx),
         PendingAnswer::Nothing | PendingAnswer::Off => false,
     }
 }

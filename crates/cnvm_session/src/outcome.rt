@@ -10,13 +10,17 @@ use pmem::Phase;
 use recovery::RecoverAnswer;
 use tx_run::{CallAnswer, LookAnswer};
 
-/// What a command answers after a call.
+/// What a command answers after a call, by whether the transaction returns `uint64_t`.
 #[tactic(auto, using(std::proofs::lemmas::Int::wraps))]
-pub fn answer_of_call(tx_answer: CallAnswer) -> Answer
-    ensures { result ≡ answer_of_call tx_answer }
+pub fn answer_of_call(unsigned: bool, tx_answer: CallAnswer) -> Answer
+    ensures { result ≡ answer_of_call unsigned tx_answer }
 {
     match tx_answer {
-        CallAnswer::Done { value, logged } => Answer::Done { value, logged },
+        CallAnswer::Done { value, logged } => Answer::Done {
+            value,
+            unsigned,
+            logged,
+        },
         CallAnswer::Trap(kind) => Answer::Trap(kind),
         CallAnswer::Aborted(kind) => Answer::Aborted(kind),
         CallAnswer::Off(phase) => Answer::Stopped(phase),
@@ -39,13 +43,17 @@ pub fn mode_of_call(tx_answer: CallAnswer) -> Mode
     }
 }
 
-/// What a command answers after a look.
+/// What a command answers after a look, by whether the transaction returns `uint64_t`.
 #[tactic(auto, using(std::proofs::lemmas::Int::wraps))]
-pub fn answer_of_look(seen: LookAnswer) -> Answer
-    ensures { result ≡ answer_of_look seen }
+pub fn answer_of_look(unsigned: bool, seen: LookAnswer) -> Answer
+    ensures { result ≡ answer_of_look unsigned seen }
 {
     match seen {
-        LookAnswer::Done(value) => Answer::Done { value, logged: 0 },
+        LookAnswer::Done(value) => Answer::Done {
+            value,
+            unsigned,
+            logged: 0,
+        },
         LookAnswer::Aborted(kind) => Answer::Aborted(kind),
         LookAnswer::Off => Answer::Stopped(Phase::Unsealed),
         LookAnswer::NoMemory => Answer::NoMemory,
@@ -62,14 +70,18 @@ pub fn mode_of_look(seen: LookAnswer) -> Mode
     }
 }
 
-/// What a command answers after a recovery.
+/// What a command answers after a recovery, by whether the owed transaction returns `uint64_t`.
 #[tactic(auto, using(std::proofs::lemmas::Int::wraps))]
-pub fn answer_of_recovery(tx_answer: RecoverAnswer) -> Answer
-    ensures { result ≡ answer_of_recovery tx_answer }
+pub fn answer_of_recovery(unsigned: bool, tx_answer: RecoverAnswer) -> Answer
+    ensures { result ≡ answer_of_recovery unsigned tx_answer }
 {
     match tx_answer {
         RecoverAnswer::Clean => Answer::RecoveredNone,
-        RecoverAnswer::Redone { value, logged } => Answer::RecoveredRedone { value, logged },
+        RecoverAnswer::Redone { value, logged } => Answer::RecoveredRedone {
+            value,
+            unsigned,
+            logged,
+        },
         RecoverAnswer::Trap(kind) => Answer::RecoveredTrap(kind),
         RecoverAnswer::Aborted(kind) => Answer::RecoveredAborted(kind),
         RecoverAnswer::Unusable(kind) => Answer::RefusedUnusable(kind),

@@ -19,11 +19,12 @@ ghost use Rattle.cnvm_session.specs.Outcomes.{RunsBy, Looks, RunsAs, Runs, Recov
 ghost use Rattle.cnvm_session.specs.Outcomes.{Opens};
 ghost use Rattle.cnvm_session.specs.Steps.{bounded_steps, most_of_command, most_of_program};
 ghost use Rattle.cnvm_session.specs.Commands.{Lasts, Tells, Shows, TellsDead, ShowsDead};
-ghost use Rattle.cnvm_session.specs.Commands.{tx_parameters, CallsTo, Calls, fallen, Powers, Commanded};
+ghost use Rattle.cnvm_session.specs.Commands.{tx_parameters, CallsTo, Calls, fallen, Powers};
+ghost use Rattle.cnvm_session.specs.Commands.{Commanded};
 
 use crate::answer::Answer;
 use crate::creating::{StartFault, create_pool};
-use crate::marks::{looks, owes_marked, policy_of, rolls_back};
+use crate::marks::{is_unsigned, looks, owes_marked, owes_unsigned, policy_of, rolls_back};
 use crate::mode::Mode;
 use crate::opening::open_pool;
 use crate::outcome::{
@@ -315,6 +316,7 @@ impl Session {
         self.run_as(
             looks(program, tx),
             rolls_back(program, tx),
+            is_unsigned(program, tx),
             alloc,
             &program.image,
             tx,
@@ -330,6 +332,7 @@ impl Session {
         &mut self,
         only_looks: bool,
         marked: bool,
+        unsigned: bool,
         alloc: Global,
         image: &Image,
         tx: u64,
@@ -340,8 +343,8 @@ impl Session {
         requires first { 1 ≤ tx }
         requires last { tx ≤ length image.now.parts.txs }
         requires lines { (P.device dev.old).lines ≡ pool_lines image.now.parts.sizes }
-        ensures runs { RunsAs only_looks marked image.now tx args.now (P.device dev.old) result
-            self.new (P.device dev.new) steps.old steps.new }
+        ensures runs { RunsAs only_looks marked unsigned image.now tx args.now (P.device dev.old)
+            result self.new (P.device dev.new) steps.old steps.new }
         ensures count { (P.device dev.old).faults ≤ (P.device dev.new).faults }
         ensures fault { result ≡ Answer.DeviceFault
             → FaultsRose (P.device dev.old).faults (P.device dev.new).faults }
@@ -349,9 +352,9 @@ impl Session {
         ensures lines { (P.device dev.new).lines ≡ (P.device dev.old).lines }
     {
         if only_looks {
-            self.look(alloc, image, tx, args, dev, steps)
+            self.look(unsigned, alloc, image, tx, args, dev, steps)
         } else {
-            self.run_by(marked, alloc, image, tx, args, dev, steps)
+            self.run_by(marked, unsigned, alloc, image, tx, args, dev, steps)
         }
     }
 
@@ -359,6 +362,7 @@ impl Session {
     #[tactic(auto, using(crate::proofs::Calls::look_no_fault))]
     fn look<P: PmemWork, L: Ledger>(
         &mut self,
+        unsigned: bool,
         alloc: Global,
         image: &Image,
         tx: u64,
@@ -369,7 +373,7 @@ impl Session {
         requires first { 1 ≤ tx }
         requires last { tx ≤ length image.now.parts.txs }
         requires lines { (P.device dev.old).lines ≡ pool_lines image.now.parts.sizes }
-        ensures looks { Looks image.now tx args.now (P.device dev.old) result self.new
+        ensures looks { Looks unsigned image.now tx args.now (P.device dev.old) result self.new
             (P.device dev.new) steps.old steps.new }
         ensures same { P.device dev.new ≡ P.device dev.old }
         ensures fault { result ≡ Answer.DeviceFault → ⊥ }
@@ -377,7 +381,7 @@ impl Session {
     {
         let seen = look(alloc, &mut self.spare, image, tx, args, dev, steps);
         self.mode = mode_of_look(seen);
-        answer_of_look(seen)
+        answer_of_look(unsigned, seen)
     }
 
     /// Runs a call, by whether its transaction is marked.
@@ -385,6 +389,7 @@ impl Session {
     fn run_by<P: PmemWork, L: Ledger>(
         &mut self,
         marked: bool,
+        unsigned: bool,
         alloc: Global,
         image: &Image,
         tx: u64,
@@ -395,8 +400,8 @@ impl Session {
         requires first { 1 ≤ tx }
         requires last { tx ≤ length image.now.parts.txs }
         requires lines { (P.device dev.old).lines ≡ pool_lines image.now.parts.sizes }
-        ensures runs { RunsBy marked image.now tx args.now (P.device dev.old) result self.new
-            (P.device dev.new) steps.old steps.new }
+        ensures runs { RunsBy marked unsigned image.now tx args.now (P.device dev.old) result
+            self.new (P.device dev.new) steps.old steps.new }
         ensures count { (P.device dev.old).faults ≤ (P.device dev.new).faults }
         ensures fault { result ≡ Answer.DeviceFault
             → FaultsRose (P.device dev.old).faults (P.device dev.new).faults }
@@ -406,7 +411,7 @@ impl Session {
         let policy = policy_of(marked);
         let tx_answer = call(alloc, &mut self.spare, image, policy, tx, args, dev, steps);
         self.mode = mode_of_call(tx_answer);
-        answer_of_call(tx_answer)
+        answer_of_call(unsigned, tx_answer)
     }
 
     /// Cuts the power, and recovers what the cut leaves.
@@ -456,7 +461,14 @@ impl Session {
             (owes_marked program.now (P.device dev.old)) program.now.image }
         ensures lines { (P.device dev.new).lines ≡ (P.device dev.old).lines }
     {
-        self.recover_by(owes_marked(program, dev), alloc, &program.image, dev, steps)
+        self.recover_by(
+            owes_marked(program, dev),
+            owes_unsigned(program, dev),
+            alloc,
+            &program.image,
+            dev,
+            steps,
+        )
     }
 
     /// Recovers a pool, by whether it owes a marked transaction.
@@ -464,13 +476,14 @@ impl Session {
     fn recover_by<P: PmemWork, L: Ledger>(
         &mut self,
         marked: bool,
+        unsigned: bool,
         alloc: Global,
         image: &Image,
         dev: &mut P,
         steps: &mut Steps<L>,
     ) -> Answer
         requires lines { (P.device dev.old).lines ≡ pool_lines image.now.parts.sizes }
-        ensures recovers { RecoversBy marked image.now (P.device dev.old) result self.new
+        ensures recovers { RecoversBy marked unsigned image.now (P.device dev.old) result self.new
             (P.device dev.new) steps.old steps.new }
         ensures count { (P.device dev.old).faults ≤ (P.device dev.new).faults }
         ensures fault { result ≡ Answer.DeviceFault
@@ -480,7 +493,7 @@ impl Session {
     {
         let tx_answer = recover_with(alloc, &mut self.spare, image, policy_of(marked), dev, steps);
         self.mode = mode_of_recovery(tx_answer);
-        answer_of_recovery(tx_answer)
+        answer_of_recovery(unsigned, tx_answer)
     }
 
     /// The lines of the pool.

@@ -2,12 +2,14 @@
 
 ghost use Rattle.std.specs.Prelude.{◌≡◌, ◌++◌, IfOk, codes};
 ghost use Rattle.std.specs.Fmt.{decimal, signed_decimal};
+ghost use Rattle.pool_map.specs.PoolText.{word_text};
 ghost use Rattle.pool_map.specs.Trap.{trap_name};
 ghost use Rattle.cnvm_session.specs.AnswerText.{answer_text, phase_name};
 
 use crate::answer::Answer;
 use nvm_base::Text;
 use pmem::Phase;
+use pool_map::word_digits;
 use std::alloc::{AllocError, Global};
 
 /// The text of an answer: its line with the LF, nothing for `Silent`, and the pool's lines for
@@ -17,15 +19,21 @@ pub fn answer_text(alloc: Global, answer: &Answer) -> Result<Text, AllocError>
 {
     match answer {
         Answer::Silent => text_of(alloc, ""),
-        Answer::Done { value, logged } => number_text(alloc, "= ", *value, *logged),
+        Answer::Done {
+            value,
+            unsigned,
+            logged,
+        } => number_text(alloc, "= ", *value, *unsigned, *logged),
         Answer::Trap(kind) => name_text(alloc, "trap ", kind.name()),
         Answer::Aborted(kind) => name_text(alloc, "aborted ", kind.name()),
         Answer::Stopped(phase) => name_text(alloc, "stopped ", phase_name(*phase)),
         Answer::DeviceFault => text_of(alloc, "device fault\n"),
         Answer::RecoveredNone => text_of(alloc, "recovered none\n"),
-        Answer::RecoveredRedone { value, logged } => {
-            number_text(alloc, "recovered redone ", *value, *logged)
-        }
+        Answer::RecoveredRedone {
+            value,
+            unsigned,
+            logged,
+        } => number_text(alloc, "recovered redone ", *value, *unsigned, *logged),
         Answer::RecoveredTrap(kind) => name_text(alloc, "recovered trap ", kind.name()),
         Answer::RecoveredAborted(kind) => name_text(alloc, "recovered aborted ", kind.name()),
         Answer::Shown(lines) => text_of(alloc, lines.as_str()),
@@ -84,11 +92,19 @@ fn dead_text(alloc: Global, name: &str, lines: &str) -> Result<Text, AllocError>
 }
 
 /// The head, followed by a value and the number of log records.
-fn number_text(alloc: Global, head: &str, value: i64, logged: u64) -> Result<Text, AllocError>
+fn number_text(
+    alloc: Global,
+    head: &str,
+    value: i64,
+    unsigned: bool,
+    logged: u64,
+) -> Result<Text, AllocError>
     ensures { IfOk result (λ text.
-        text ≡ head.now ++ (signed_decimal value
+        text ≡ head.now ++ (word_text unsigned value
         ++ (codes " log " ++ (decimal logged ++ codes "\n")))) }
 {
+    let value = word_digits(alloc, unsigned, value)?;
+    let value = value.as_str();
     let line = format!(in alloc; "{head}{value} log {logged}\n")?;
     text_of(alloc, line.as_str())
 }

@@ -10,11 +10,14 @@ use Rattle.std.proofs.lemmas.Option.{none-some}
 use Rattle.std.proofs.lemmas.Slice.Eq.{bytes_eq-Decides}
 use Rattle.pool_map.specs.declared.shapes.StructShape.{StructShape}
 use Rattle.pool_map.specs.PoolFits.{words_of}
+use Rattle.c_tree.specs.declared.expr.IntType.{IntType}
+use Rattle.c_tree.specs.declared.expr.IntType.TheVariants.{Signed, Unsigned}
+use Rattle.c_tree.specs.StmtTree.{TypeTree, Int, Pointer}
 use Rattle.c_tree.specs.ItemTree.{FieldTree, LengthTree}
 use Rattle.c_tree.specs.Program.{tree_of}
 use Rattle.c_types.specs.Tables.{Tables, StructTree, tables_of}
-use Rattle.c_types.specs.Shapes.{field_shape, struct_shape, numbered, root_fields}
-use Rattle.cnvm_session.specs.Former.{is_same_type, is_same_length, is_same_field}
+use Rattle.c_types.specs.Shapes.{field_shape, struct_shape, numbered, root_fields, is_unsigned}
+use Rattle.cnvm_session.specs.Former.{is_same_int, is_same_type, is_same_length, is_same_field}
 use Rattle.cnvm_session.specs.Former.{are_same_fields, is_same_struct, numbered_other, root_name}
 use Rattle.cnvm_session.specs.Former.{other_in}
 use Rattle.cnvm_session.specs.Pool.{sizes_of}
@@ -34,14 +37,27 @@ same_length (Some m) None is = absurd (cc)
 same_length (Some m) (Some n) is =
     ap (λ (x : ℤ). Some (cast_unsigned w64 x)) ((Decides-int_eq m.value n.value).0 is)
 
+same_int : (m n : IntType) → is_same_int m n ≡ true → m ≡ n
+same_int Signed Signed is = refl
+same_int Unsigned Unsigned is = refl
+same_int Signed Unsigned is = absurd (cc)
+same_int Unsigned Signed is = absurd (cc)
+
+same_type : (s t : TypeTree) → is_same_type s t ≡ true → is_unsigned s ≡ is_unsigned t
+same_type (Int m) (Int n) is = ap (λ (k : IntType). is_unsigned (Int k)) (same_int m n is)
+same_type (Int m) (Pointer b) is = absurd (cc)
+same_type (Pointer a) (Int n) is = absurd (cc)
+same_type (Pointer a) (Pointer b) is = refl
+
 same_field : (f g : FieldTree) → is_same_field f g ≡ true → field_shape f ≡ field_shape g
 same_field f g is =
     let types = and_parts (is_same_type f.ty g.ty)
     (bytes_eq f.name.text g.name.text && is_same_length f.len g.len) is in
     let names = and_parts (bytes_eq f.name.text g.name.text) (is_same_length f.len g.len) types.1 in
+    let kind = same_type f.ty g.ty types.0 in
     let name = same_bytes f.name.text g.name.text names.0 in
     let long = same_length f.len g.len names.1 in
-    λ i. record { name = name i; length = long i }
+    λ i. record { name = name i; unsigned = kind i; length = long i }
 
 same_fields : (fs gs : List FieldTree) → are_same_fields fs gs ≡ true
     → map field_shape fs ≡ map field_shape gs

@@ -16,7 +16,7 @@ use Rattle.cnvm_session.specs.declared.answer.Answer.{Answer}
 use Rattle.cnvm_session.specs.declared.answer.Answer.TheVariants as answer
 use Rattle.cnvm_session.specs.declared.program.Program.{Program}
 use Rattle.cnvm_session.specs.Commands.{call_number}
-use Rattle.cnvm_session.specs.Marks.{rolls_back_of, looks_of}
+use Rattle.cnvm_session.specs.Marks.{rolls_back_of, looks_of, unsigned_of}
 use Rattle.session_law.specs.Source.{source_parameters, means, ComesBy, pool_of_image}
 use Rattle.session_law.specs.State.{Pending, Standing, Ready, Down, Unusable, SourceState}
 use Rattle.session_law.specs.State.{standing_as, done_with, undone_as}
@@ -65,13 +65,13 @@ answer_of_kind (UnfitPick line) = answer.RefusedPick line
 by_kind : (a : Answer) → IsMeant (answer_kind a) ⊎ (a ≡ answer_of_kind (answer_kind a))
 unfolding answer_of_kind
 by_kind answer.Silent = inl tt
-by_kind (answer.Done value logged) = inl tt
+by_kind (answer.Done value unsigned logged) = inl tt
 by_kind (answer.Trap kind) = inl tt
 by_kind (answer.Aborted kind) = inl tt
 by_kind (answer.Stopped at) = inr refl
 by_kind answer.DeviceFault = inr refl
 by_kind answer.RecoveredNone = inl tt
-by_kind (answer.RecoveredRedone value logged) = inl tt
+by_kind (answer.RecoveredRedone value unsigned logged) = inl tt
 by_kind (answer.RecoveredTrap kind) = inl tt
 by_kind (answer.RecoveredAborted kind) = inl tt
 by_kind (answer.Shown text) = inl tt
@@ -143,10 +143,10 @@ pub true_not_false : true ≡ false → ⊥
 true_not_false e = absurd cc
 
 -- a call that runs
-call_answer : Bool → Outcome → ℕ → Answer
-call_answer marked (Done pool value) logged = answer.Done value logged
-call_answer false (Trap kind) logged = answer.Trap kind
-call_answer true (Trap kind) logged = answer.Aborted kind
+call_answer : (marked unsigned : Bool) → Outcome → ℕ → Answer
+call_answer marked unsigned (Done pool value) logged = answer.Done value unsigned logged
+call_answer false unsigned (Trap kind) logged = answer.Trap kind
+call_answer true unsigned (Trap kind) logged = answer.Aborted kind
 
 call_state : Bool → SourceState → Outcome → SourceState
 call_state marked s (Done pool value) = done_with pool value Ready s
@@ -163,16 +163,21 @@ call_after s tx args (UnfitPick line) = s
 
 module _ (program : Program) (s : SourceState) (image : Words) where
   module _ (tx : ℕ) (args : List ℤ) where
+    abbrev typed : Bool
+    typed = unsigned_of program tx
+
     runs_split : (marked : Bool) (a : Answer) (t : SourceState)
         → RunsBy marked program s image tx args a t
-        → Splits (ByOutcome (call_answer marked) (call_state marked s) marked program s.pool tx
-        args) (call_after s tx args) a t
+        → Splits (ByOutcome (call_answer marked typed) (call_state marked s) marked program s.pool
+        tx args) (call_after s tx args) a t
     unfolding call_answer call_state call_after
     runs_split marked answer.Silent t h = absurd h
-    runs_split true (answer.Done value logged) t h =
-        inl (tt, (logged, Done h.0 value, h.1, refl, h.2))
-    runs_split false (answer.Done value logged) t h =
-        inl (tt, (logged, Done h.0 value, h.1, refl, h.2))
+    runs_split true (answer.Done value unsigned logged) t h =
+        let told = ap (λ (b : Bool). answer.Done value b logged) h.3 in
+        inl (tt, (logged, Done h.0 value, h.1, told, h.2))
+    runs_split false (answer.Done value unsigned logged) t h =
+        let told = ap (λ (b : Bool). answer.Done value b logged) h.3 in
+        inl (tt, (logged, Done h.0 value, h.1, told, h.2))
     runs_split true (answer.Trap kind) t h = absurd (true_not_false h.0)
     runs_split false (answer.Trap kind) t h = inl (tt, (h.1.0, Trap kind, h.1.1, refl, h.2))
     runs_split true (answer.Aborted kind) t h = inl (tt, (h.1.0, Trap kind, h.1.1, refl, h.2))
@@ -180,7 +185,7 @@ module _ (program : Program) (s : SourceState) (image : Words) where
     runs_split marked (answer.Stopped at) t h = inr ((λ is. is), h)
     runs_split marked answer.DeviceFault t h = inr ((λ is. is), h)
     runs_split marked answer.RecoveredNone t h = absurd h
-    runs_split marked (answer.RecoveredRedone value logged) t h = absurd h
+    runs_split marked (answer.RecoveredRedone value unsigned logged) t h = absurd h
     runs_split marked (answer.RecoveredTrap kind) t h = absurd h
     runs_split marked (answer.RecoveredAborted kind) t h = absurd h
     runs_split marked (answer.Shown text) t h = absurd h
@@ -196,14 +201,14 @@ module _ (program : Program) (s : SourceState) (image : Words) where
 
     runs_one : (marked : Bool) → IsOne (RunsBy marked program s image tx args)
     runs_one marked a b t u x y kinds =
-        split_one (ByOutcome (call_answer marked) (call_state marked s) marked program s.pool tx
-        args) (call_after s tx args)
-        (outcome_one (call_answer marked) (call_state marked s) marked program s.pool tx args) a b
-        t u (runs_split marked a t x) (runs_split marked b u y) kinds
+        split_one (ByOutcome (call_answer marked typed) (call_state marked s) marked program s.pool
+        tx args) (call_after s tx args)
+        (outcome_one (call_answer marked typed) (call_state marked s) marked program s.pool tx
+        args) a b t u (runs_split marked a t x) (runs_split marked b u y) kinds
 
     -- a call that only looks: what the transaction comes to decides
     abbrev look_answer : Outcome → Answer
-    look_answer (Done pool value) = answer.Done value 0
+    look_answer (Done pool value) = answer.Done value typed 0
     look_answer (Trap kind) = answer.Aborted kind
 
     abbrev IsLook : Answer → SourceState → Type 0
@@ -212,14 +217,14 @@ module _ (program : Program) (s : SourceState) (image : Words) where
     looks_split : (a : Answer) (t : SourceState) → Looks program s tx args a t
         → Splits IsLook (λ k. standing_as (Down None) s) a t
     looks_split answer.Silent t h = absurd h
-    looks_split (answer.Done value logged) t h =
-        inl (tt, (ap (answer.Done value) h.1 ∙ sym (ap look_answer h.0), h.2))
+    looks_split (answer.Done value unsigned logged) t h =
+        inl (tt, ((λ i. answer.Done value (h.3 i) (h.1 i)) ∙ sym (ap look_answer h.0), h.2))
     looks_split (answer.Trap kind) t h = absurd h
     looks_split (answer.Aborted kind) t h = inl (tt, (sym (ap look_answer h.0), h.1))
     looks_split (answer.Stopped at) t h = absurd h
     looks_split answer.DeviceFault t h = absurd h
     looks_split answer.RecoveredNone t h = absurd h
-    looks_split (answer.RecoveredRedone value logged) t h = absurd h
+    looks_split (answer.RecoveredRedone value unsigned logged) t h = absurd h
     looks_split (answer.RecoveredTrap kind) t h = absurd h
     looks_split (answer.RecoveredAborted kind) t h = absurd h
     looks_split (answer.Shown text) t h = absurd h
@@ -268,13 +273,13 @@ module _ (program : Program) (s : SourceState) (image : Words) where
   tells_split : (a : Answer) (t : SourceState) → Tells program s a t
       → Splits IsShown (λ k. standing_as (Down None) s) a t
   tells_split answer.Silent t h = absurd h
-  tells_split (answer.Done value logged) t h = absurd h
+  tells_split (answer.Done value unsigned logged) t h = absurd h
   tells_split (answer.Trap kind) t h = absurd h
   tells_split (answer.Aborted kind) t h = absurd h
   tells_split (answer.Stopped at) t h = absurd h
   tells_split answer.DeviceFault t h = absurd h
   tells_split answer.RecoveredNone t h = absurd h
-  tells_split (answer.RecoveredRedone value logged) t h = absurd h
+  tells_split (answer.RecoveredRedone value unsigned logged) t h = absurd h
   tells_split (answer.RecoveredTrap kind) t h = absurd h
   tells_split (answer.RecoveredAborted kind) t h = absurd h
   tells_split (answer.Shown text) t h = inl (tt, (ap answer.Shown h.0, h.1))
@@ -332,13 +337,13 @@ module _ (program : Program) (s : SourceState) (image : Words) where
   rests_split : (a : Answer) (t : SourceState) → Rests program s image a t
       → Splits IsNone (λ k. s) a t
   rests_split answer.Silent t h = absurd h
-  rests_split (answer.Done value logged) t h = absurd h
+  rests_split (answer.Done value unsigned logged) t h = absurd h
   rests_split (answer.Trap kind) t h = absurd h
   rests_split (answer.Aborted kind) t h = absurd h
   rests_split (answer.Stopped at) t h = inr ((λ is. is), h.1)
   rests_split answer.DeviceFault t h = inr ((λ is. is), h)
   rests_split answer.RecoveredNone t h = inl (tt, (refl, h))
-  rests_split (answer.RecoveredRedone value logged) t h = absurd h
+  rests_split (answer.RecoveredRedone value unsigned logged) t h = absurd h
   rests_split (answer.RecoveredTrap kind) t h = absurd h
   rests_split (answer.RecoveredAborted kind) t h = absurd h
   rests_split (answer.Shown text) t h = absurd h
@@ -359,28 +364,35 @@ module _ (program : Program) (s : SourceState) (image : Words) where
       (rests_split a t x) (rests_split b u y) kinds
 
 -- a recovery where a transaction is owed
-redo_answer : Bool → Outcome → ℕ → Answer
-redo_answer marked (Done pool value) logged = answer.RecoveredRedone value logged
-redo_answer false (Trap kind) logged = answer.RecoveredTrap kind
-redo_answer true (Trap kind) logged = answer.RecoveredAborted kind
+redo_answer : (marked unsigned : Bool) → Outcome → ℕ → Answer
+redo_answer marked unsigned (Done pool value) logged =
+    answer.RecoveredRedone value unsigned logged
+redo_answer false unsigned (Trap kind) logged = answer.RecoveredTrap kind
+redo_answer true unsigned (Trap kind) logged = answer.RecoveredAborted kind
 
 module _ (program : Program) (owed : Pending) (s : SourceState) (image : Words) where
+  abbrev typed_redo : Bool
+  typed_redo = unsigned_of program owed.tx
+
   redoes_split : (marked : Bool) (a : Answer) (t : SourceState)
       → RedoesBy marked program owed s image a t
-      → Splits (ByOutcome (redo_answer marked) (call_state marked s) marked program s.pool owed.tx
-      owed.args) (λ k. s) a t
+      → Splits (ByOutcome (redo_answer marked typed_redo) (call_state marked s) marked program
+      s.pool
+      owed.tx owed.args) (λ k. s) a t
   unfolding redo_answer call_state
   redoes_split marked answer.Silent t h = absurd h
-  redoes_split marked (answer.Done value logged) t h = absurd h
+  redoes_split marked (answer.Done value unsigned logged) t h = absurd h
   redoes_split marked (answer.Trap kind) t h = absurd h
   redoes_split marked (answer.Aborted kind) t h = absurd h
   redoes_split marked (answer.Stopped at) t h = inr ((λ is. is), h.1)
   redoes_split marked answer.DeviceFault t h = inr ((λ is. is), h)
   redoes_split marked answer.RecoveredNone t h = absurd h
-  redoes_split true (answer.RecoveredRedone value logged) t h =
-      inl (tt, (logged, Done h.0 value, h.1, refl, h.2))
-  redoes_split false (answer.RecoveredRedone value logged) t h =
-      inl (tt, (logged, Done h.0 value, h.1, refl, h.2))
+  redoes_split true (answer.RecoveredRedone value unsigned logged) t h =
+      let told = ap (λ (b : Bool). answer.RecoveredRedone value b logged) h.3 in
+      inl (tt, (logged, Done h.0 value, h.1, told, h.2))
+  redoes_split false (answer.RecoveredRedone value unsigned logged) t h =
+      let told = ap (λ (b : Bool). answer.RecoveredRedone value b logged) h.3 in
+      inl (tt, (logged, Done h.0 value, h.1, told, h.2))
   redoes_split true (answer.RecoveredTrap kind) t h = absurd (true_not_false h.0)
   redoes_split false (answer.RecoveredTrap kind) t h =
       inl (tt, (h.1.0, Trap kind, h.1.1, refl, h.2))
@@ -400,10 +412,10 @@ module _ (program : Program) (owed : Pending) (s : SourceState) (image : Words) 
 
   redoes_one : (marked : Bool) → IsOne (RedoesBy marked program owed s image)
   redoes_one marked a b t u x y kinds =
-      split_one (ByOutcome (redo_answer marked) (call_state marked s) marked program s.pool owed.tx
-      owed.args) (λ k. s)
-      (outcome_one (redo_answer marked) (call_state marked s) marked program s.pool owed.tx
-      owed.args) a b t u (redoes_split marked a t x) (redoes_split marked b u y) kinds
+      split_one (ByOutcome (redo_answer marked typed_redo) (call_state marked s) marked program
+      s.pool owed.tx owed.args) (λ k. s)
+      (outcome_one (redo_answer marked typed_redo) (call_state marked s) marked program s.pool
+      owed.tx owed.args) a b t u (redoes_split marked a t x) (redoes_split marked b u y) kinds
 
 recovers_one : (program : Program) (s : SourceState) (image : Words) (st : Standing)
     → IsOne (Recovers st program s image)
@@ -497,13 +509,13 @@ module _ (program : Program) (s : SourceState) (image : Words) where
   powers_split : (a : Answer) (t : SourceState) → Powers program s image a t
       → (IsOfPick (answer_kind a) × (t ≡ s)) ⊎ (ByMark a t ⊎ ByRecovery a t)
   powers_split answer.Silent t h = inr (inr ((λ is. is), h.0, h.1))
-  powers_split (answer.Done value logged) t h = inr (inr ((λ is. is), h.0, h.1))
+  powers_split (answer.Done value unsigned logged) t h = inr (inr ((λ is. is), h.0, h.1))
   powers_split (answer.Trap kind) t h = inr (inr ((λ is. is), h.0, h.1))
   powers_split (answer.Aborted kind) t h = inr (inr ((λ is. is), h.0, h.1))
   powers_split (answer.Stopped at) t h = inr (inr ((λ is. is), h.0, h.1))
   powers_split answer.DeviceFault t h = inr (inr ((λ is. is), h.0, h.1))
   powers_split answer.RecoveredNone t h = inr (inr ((λ is. is), h.0, h.1))
-  powers_split (answer.RecoveredRedone value logged) t h = inr (inr ((λ is. is), h.0, h.1))
+  powers_split (answer.RecoveredRedone value unsigned logged) t h = inr (inr ((λ is. is), h.0, h.1))
   powers_split (answer.RecoveredTrap kind) t h = inr (inr ((λ is. is), h.0, h.1))
   powers_split (answer.RecoveredAborted kind) t h = inr (inr ((λ is. is), h.0, h.1))
   powers_split (answer.Shown text) t h = inr (inr ((λ is. is), h.0, h.1))

@@ -23,7 +23,7 @@ use Rattle.cnvm_session.specs.declared.mode.Mode.{Mode}
 use Rattle.cnvm_session.specs.declared.mode.Mode.TheVariants as mode
 use Rattle.cnvm_session.specs.declared.answer.Answer.TheVariants as answer
 use Rattle.cnvm_session.specs.declared.program.Program.{Program}
-use Rattle.cnvm_session.specs.Marks.{policy_of, owes_marked}
+use Rattle.cnvm_session.specs.Marks.{policy_of, owes_marked, owes_unsigned}
 use Rattle.cnvm_session.specs.Opening.{opening_events}
 use Rattle.cnvm_session.specs.Outcomes.{RecoversBy, answer_of_recovery, mode_of_recovery}
 use Rattle.cnvm_session.specs.Commands as commanded
@@ -86,47 +86,47 @@ idle_recovery r p image d b k k1 is h = by_found ((b ≡ d) × (k1 ≡ k)) image
     (λ off. let same = h.off off in (same.1, same.2))
 
 -- the recovery's own answer, from that of the command
-unusable_of : (r : RecoverAnswer) (kind : TrapKind)
-    → answer.RefusedUnusable kind ≡ answer_of_recovery r → r ≡ recovered.Unusable kind
-unusable_of recovered.Clean kind e = absurd cc
-unusable_of (recovered.Redone v l) kind e = absurd cc
-unusable_of (recovered.Trap other) kind e = absurd cc
-unusable_of (recovered.Aborted other) kind e = absurd cc
-unusable_of (recovered.Unusable other) kind e =
+unusable_of : (u : Bool) (r : RecoverAnswer) (kind : TrapKind)
+    → answer.RefusedUnusable kind ≡ answer_of_recovery u r → r ≡ recovered.Unusable kind
+unusable_of u recovered.Clean kind e = absurd cc
+unusable_of u (recovered.Redone v l) kind e = absurd cc
+unusable_of u (recovered.Trap other) kind e = absurd cc
+unusable_of u (recovered.Aborted other) kind e = absurd cc
+unusable_of u (recovered.Unusable other) kind e =
     let same : kind ≡ other = cc in ap recovered.Unusable (sym same)
-unusable_of recovered.Numbers kind e = absurd cc
-unusable_of (recovered.Off at) kind e = absurd cc
-unusable_of recovered.Failed kind e = absurd cc
-unusable_of recovered.NoMemory kind e = absurd cc
+unusable_of u recovered.Numbers kind e = absurd cc
+unusable_of u (recovered.Off at) kind e = absurd cc
+unusable_of u recovered.Failed kind e = absurd cc
+unusable_of u recovered.NoMemory kind e = absurd cc
 
-numbers_of : (r : RecoverAnswer) → answer.RefusedNumbers ≡ answer_of_recovery r
+numbers_of : (u : Bool) (r : RecoverAnswer) → answer.RefusedNumbers ≡ answer_of_recovery u r
     → r ≡ recovered.Numbers
-numbers_of recovered.Clean e = absurd cc
-numbers_of (recovered.Redone v l) e = absurd cc
-numbers_of (recovered.Trap other) e = absurd cc
-numbers_of (recovered.Aborted other) e = absurd cc
-numbers_of (recovered.Unusable other) e = absurd cc
-numbers_of recovered.Numbers e = refl
-numbers_of (recovered.Off at) e = absurd cc
-numbers_of recovered.Failed e = absurd cc
-numbers_of recovered.NoMemory e = absurd cc
+numbers_of u recovered.Clean e = absurd cc
+numbers_of u (recovered.Redone v l) e = absurd cc
+numbers_of u (recovered.Trap other) e = absurd cc
+numbers_of u (recovered.Aborted other) e = absurd cc
+numbers_of u (recovered.Unusable other) e = absurd cc
+numbers_of u recovered.Numbers e = refl
+numbers_of u (recovered.Off at) e = absurd cc
+numbers_of u recovered.Failed e = absurd cc
+numbers_of u recovered.NoMemory e = absurd cc
 
 module _ (program : Program) (d b : Device) (n : Mode) (k k1 : ℕ) where
-  unusable_by : (by : Bool) (kind : TrapKind)
-      → RecoversBy by program.image d (answer.RefusedUnusable kind) n b k k1
+  unusable_by : (by u : Bool) (kind : TrapKind)
+      → RecoversBy by u program.image d (answer.RefusedUnusable kind) n b k k1
       → (b ≡ d) × (k1 ≡ k) × (n ≡ mode.Unusable kind)
   unfolding IsIdle
-  unusable_by by kind h =
-      let is = unusable_of h.tx_answer kind h.answer in
+  unusable_by by u kind h =
+      let is = unusable_of u h.tx_answer kind h.answer in
       let kept = idle_recovery h.tx_answer (policy_of by) program.image d b k k1
       (subst IsIdle (sym is) tt) h.recovered in
       (kept.0, kept.1, h.mode ∙ ap mode_of_recovery is)
 
-  numbers_by : (by : Bool) → RecoversBy by program.image d answer.RefusedNumbers n b k k1
+  numbers_by : (by u : Bool) → RecoversBy by u program.image d answer.RefusedNumbers n b k k1
       → (b ≡ d) × (k1 ≡ k) × (n ≡ mode.Down)
   unfolding IsIdle
-  numbers_by by h =
-      let is = numbers_of h.tx_answer h.answer in
+  numbers_by by u h =
+      let is = numbers_of u h.tx_answer h.answer in
       let kept = idle_recovery h.tx_answer (policy_of by) program.image d b k k1
       (subst IsIdle (sym is) tt) h.recovered in
       (kept.0, kept.1, h.mode ∙ ap mode_of_recovery is)
@@ -141,8 +141,8 @@ module _ (program : Program) (choice : Choice) (m n : Mode) (d b : Device) (k k1
   unusable_power kind None (Some line) falls is h =
       let clash = (h.1 line falls is).0 in absurd cc
   unusable_power kind None None falls is h =
-      unusable_by program (powered choice d) b n k k1 (owes_marked program (powered choice d)) kind
-      (h.2 falls is)
+      unusable_by program (powered choice d) b n k k1 (owes_marked program (powered choice d))
+      (owes_unsigned program (powered choice d)) kind (h.2 falls is)
 
   numbers_power : (falls fits : Option ℕ) → fallen 0 choice.picks ≡ falls
       → bad (memory_of d) choice.picks ≡ fits
@@ -152,7 +152,7 @@ module _ (program : Program) (choice : Choice) (m n : Mode) (d b : Device) (k k1
   numbers_power None (Some line) falls is h = let clash = (h.1 line falls is).0 in absurd cc
   numbers_power None None falls is h =
       numbers_by program (powered choice d) b n k k1 (owes_marked program (powered choice d))
-      (h.2 falls is)
+      (owes_unsigned program (powered choice d)) (h.2 falls is)
 
 pub power_unusable : PowerUnusableLaw
 power_unusable program super choice kind x y step =
@@ -194,17 +194,17 @@ none_left d b es on endless part =
     let went = went_off d b es part on in
     let clash : Some went.n ≡ None = sym went.left ∙ endless in absurd cc
 
-off_of : (r : RecoverAnswer) (at : Phase) → answer.Stopped at ≡ answer_of_recovery r
+off_of : (u : Bool) (r : RecoverAnswer) (at : Phase) → answer.Stopped at ≡ answer_of_recovery u r
     → r ≡ recovered.Off at
-off_of recovered.Clean at e = absurd cc
-off_of (recovered.Redone v l) at e = absurd cc
-off_of (recovered.Trap kind) at e = absurd cc
-off_of (recovered.Aborted kind) at e = absurd cc
-off_of (recovered.Unusable kind) at e = absurd cc
-off_of recovered.Numbers at e = absurd cc
-off_of (recovered.Off p) at e = let same : at ≡ p = cc in ap recovered.Off (sym same)
-off_of recovered.Failed at e = absurd cc
-off_of recovered.NoMemory at e = absurd cc
+off_of u recovered.Clean at e = absurd cc
+off_of u (recovered.Redone v l) at e = absurd cc
+off_of u (recovered.Trap kind) at e = absurd cc
+off_of u (recovered.Aborted kind) at e = absurd cc
+off_of u (recovered.Unusable kind) at e = absurd cc
+off_of u recovered.Numbers at e = absurd cc
+off_of u (recovered.Off p) at e = let same : at ≡ p = cc in ap recovered.Off (sym same)
+off_of u recovered.Failed at e = absurd cc
+off_of u recovered.NoMemory at e = absurd cc
 
 module _ (d b : Device) (on : d.on ≡ true) (endless : d.left ≡ None) where
   off_not : d.on ≡ false → ⊥
@@ -233,12 +233,12 @@ module _ (d b : Device) (on : d.on ≡ true) (endless : d.left ≡ None) where
       let clash = (h.unnamed is mark fit sealed unnamed).0 in absurd cc)
       off_not
 
-  not_stopped : (program : Program) (by : Bool) (at : Phase) (n : Mode) (k k1 : ℕ)
-      → RecoversBy by program.image d (answer.Stopped at) n b k k1 → ⊥
-  not_stopped program by at n k k1 h =
+  not_stopped : (program : Program) (by u : Bool) (at : Phase) (n : Mode) (k k1 : ℕ)
+      → RecoversBy by u program.image d (answer.Stopped at) n b k k1 → ⊥
+  not_stopped program by u at n k k1 h =
       not_recovered at (policy_of by) program.image k k1
       (subst (λ (r : RecoverAnswer). IsRecovered r (policy_of by) program.image d b k k1)
-      (off_of h.tx_answer at h.answer) h.recovered)
+      (off_of u h.tx_answer at h.answer) h.recovered)
 
 pub uncut_opening : UncutOpeningLaw
 uncut_opening program words d k at y step =
@@ -246,5 +246,5 @@ uncut_opening program words d k at y step =
     let e : Device = step.did.opened in
     let done : AllDone (blanked lines d) (opening_events lines words) e =
     all_done (blanked lines d) e (opening_events lines words) step.did.written in
-    not_stopped e y.device done.on (done.endless refl) program (owes_marked program e) at y.mode k
-    y.steps step.did.recovers
+    not_stopped e y.device done.on (done.endless refl) program (owes_marked program e)
+    (owes_unsigned program e) at y.mode k y.steps step.did.recovers

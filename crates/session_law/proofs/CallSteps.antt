@@ -14,7 +14,7 @@ use Rattle.cnvm_session.specs.declared.answer.Answer.{Answer}
 use Rattle.cnvm_session.specs.declared.program.Program.{Program}
 use Rattle.cnvm_session.specs.Commands as commanded
 use Rattle.cnvm_session.specs.Commands.{call_number, tx_parameters}
-use Rattle.cnvm_session.specs.Marks.{rolls_back_of, looks_of}
+use Rattle.cnvm_session.specs.Marks.{rolls_back_of, looks_of, unsigned_of}
 use Rattle.cnvm_session.specs.Outcomes.{answer_of_call}
 use Rattle.cnvm_session.specs.Outcomes as outcomes
 use Rattle.cnvm_session.specs.Pool.{sizes_of}
@@ -39,10 +39,10 @@ module _ (program : Program) (super : Words) (agrees : Agrees program)
   abbrev Numbers : Bool → Type 0
   Numbers x = (is_number (view d.cache DONE) && is_number (view d.cache ATTEMPT)) ≡ x
 
-  by_mark : tx_parameters program.image tx ≡ Some (length args) → (marked : Bool) →
-      rolls_back_of program tx ≡ marked →
-      outcomes.RunsBy marked program.image tx args d a n b k k1 → Taken marked
-  by_mark takes marked mark is =
+  by_mark : tx_parameters program.image tx ≡ Some (length args) → (marked u : Bool)
+      → rolls_back_of program tx ≡ marked →
+      outcomes.RunsBy marked u program.image tx args d a n b k k1 → Taken marked
+  by_mark takes marked u mark is =
       go (is_number (view d.cache DONE) && is_number (view d.cache ATTEMPT)) refl
     where
       go : (x : Bool) → Numbers x → Taken marked
@@ -50,28 +50,28 @@ module _ (program : Program) (super : Words) (agrees : Agrees program)
           let good = resting.before.good in
           call_counts marked program super agrees d s resting tx args takes words
           (numbers_small (view d.cache) s.done good.attempt good.done good.attempt_is numbers) b
-          mark is.tx_answer k k1 (subst RanToEnd is.answer run)
+          mark u is.tx_answer k k1 (subst RanToEnd is.answer run)
           (is.called.ready resting.on (stands_ready (view d.cache) good.mark numbers))
       go false numbers =
           let same = (is.called.numbers resting.on
           (stands_numbers (view d.cache) resting.before.good.mark numbers)).0 in
-          absurd (subst (λ (r : CallAnswer). RanToEnd (answer_of_call r)) same
+          absurd (subst (λ (r : CallAnswer). RanToEnd (answer_of_call u r)) same
           (subst RanToEnd is.answer run))
 
-  by_marks : tx_parameters program.image tx ≡ Some (length args) → (looks marked : Bool) →
-      looks_of program tx ≡ looks → rolls_back_of program tx ≡ marked →
-      outcomes.RunsAs looks marked program.image tx args d a n b k k1 → Taken marked
-  by_marks takes true marked look mark is =
-      look_takes program super agrees d s resting tx args takes words look marked is.seen k k1
+  by_marks : tx_parameters program.image tx ≡ Some (length args) → (looks marked u : Bool)
+      → looks_of program tx ≡ looks → rolls_back_of program tx ≡ marked →
+      outcomes.RunsAs looks marked u program.image tx args d a n b k k1 → Taken marked
+  by_marks takes true marked u look mark is =
+      look_takes program super agrees d s resting tx args takes words look marked u is.seen k k1
       (subst RanToEnd is.answer run) is.looked
-  by_marks takes false marked look mark is = by_mark takes marked mark is
+  by_marks takes false marked u look mark is = by_mark takes marked u mark is
 
   by_count : (count : ℕ) (same : Bool) → (count == length args) ≡ same
       → tx_parameters program.image tx ≡ Some count
       → commanded.CallsWith same program tx args d a n b k k1 → Taken (rolls_back_of program tx)
   by_count count true same takes h =
       by_marks (takes ∙ ap (λ (i : ℕ). Some i) (eqb-true count (length args) same))
-      (looks_of program tx) (rolls_back_of program tx) refl refl h
+      (looks_of program tx) (rolls_back_of program tx) (unsigned_of program tx) refl refl h
   by_count count false same takes h = absurd (subst RanToEnd h.0 run)
 
   by_parameters : (count : Option ℕ) → tx_parameters program.image tx ≡ count

@@ -28,7 +28,7 @@ use Rattle.pm_machine.specs.HeapPool.{heap_of}
 use Rattle.cnvm_session.specs.Commands as commanded
 use Rattle.cnvm_session.specs.Outcomes as outcomes
 use Rattle.cnvm_session.specs.Outcomes.{mode_of_look}
-use Rattle.cnvm_session.specs.Marks.{rolls_back_of, looks_of, policy_of}
+use Rattle.cnvm_session.specs.Marks.{rolls_back_of, looks_of, policy_of, unsigned_of}
 use Rattle.cnvm_session.specs.Commands.{call_number, tx_parameters}
 use Rattle.cnvm_session.specs.Pool.{sizes_of}
 use Rattle.session_law.specs.Source.{source_pool}
@@ -130,7 +130,7 @@ module _ (program : Program) (super : Words) where
 
     by_mark : (tx : ℕ) → tx_parameters program.image tx ≡ Some (length args) → (marked : Bool) →
         rolls_back_of program tx ≡ marked →
-        outcomes.RunsBy marked program.image tx args d a n b k k1 →
+        outcomes.RunsBy marked (unsigned_of program tx) program.image tx args d a n b k k1 →
         (t : SourceState) × RunsBy marked program s (view d.cache) tx args a t
         × Holds program super n b t
     by_mark tx exact marked mark h =
@@ -144,7 +144,7 @@ module _ (program : Program) (super : Words) where
 
     by_look : (tx : ℕ) → tx_parameters program.image tx ≡ Some (length args) →
         looks_of program tx ≡ true →
-        outcomes.Looks program.image tx args d a n b k k1 →
+        outcomes.Looks (unsigned_of program tx) program.image tx args d a n b k k1 →
         (t : SourceState) × Looks program s tx args a t × Holds program super n b t
     by_look tx exact looks h =
         let done = look_runs program super agrees d s resting tx args exact words looks ready h.seen
@@ -158,7 +158,7 @@ module _ (program : Program) (super : Words) where
 
     by_marks : (tx : ℕ) → tx_parameters program.image tx ≡ Some (length args) →
         (looks marked : Bool) → looks_of program tx ≡ looks → rolls_back_of program tx ≡ marked →
-        outcomes.RunsAs looks marked program.image tx args d a n b k k1 →
+        outcomes.RunsAs looks marked (unsigned_of program tx) program.image tx args d a n b k k1 →
         (t : SourceState) × RunsAs looks marked program s (view d.cache) tx args a t
         × Holds program super n b t
     by_marks tx exact true marked looks mark h = by_look tx exact looks h
@@ -237,13 +237,13 @@ module _ (program : Program) (super : Words) where
     tells_as answer.NoMemory h =
         (standing_as (Down None) s, refl, (h, resting_down program super d s resting))
     tells_as answer.Silent h = absurd h
-    tells_as (answer.Done v l) h = absurd h
+    tells_as (answer.Done v u l) h = absurd h
     tells_as (answer.Trap t) h = absurd h
     tells_as (answer.Aborted t) h = absurd h
     tells_as (answer.Stopped p) h = absurd h
     tells_as answer.DeviceFault h = absurd h
     tells_as answer.RecoveredNone h = absurd h
-    tells_as (answer.RecoveredRedone v l) h = absurd h
+    tells_as (answer.RecoveredRedone v u l) h = absurd h
     tells_as (answer.RecoveredTrap t) h = absurd h
     tells_as (answer.RecoveredAborted t) h = absurd h
     tells_as (answer.Last f v) h = absurd h

@@ -32,13 +32,13 @@ module _ (shapes : Shapes) (z : Sizes) (kind : TrapKind) (d : Device) where
       inl (text, ap (λ (k : TrapKind). answer.ShownDead k text) h.0, h.1)
   told_dead answer.NoMemory h = inr refl
   told_dead answer.Silent h = absurd h
-  told_dead (answer.Done value logged) h = absurd h
+  told_dead (answer.Done value unsigned logged) h = absurd h
   told_dead (answer.Trap t) h = absurd h
   told_dead (answer.Aborted t) h = absurd h
   told_dead (answer.Stopped p) h = absurd h
   told_dead answer.DeviceFault h = absurd h
   told_dead answer.RecoveredNone h = absurd h
-  told_dead (answer.RecoveredRedone value logged) h = absurd h
+  told_dead (answer.RecoveredRedone value unsigned logged) h = absurd h
   told_dead (answer.RecoveredTrap t) h = absurd h
   told_dead (answer.RecoveredAborted t) h = absurd h
   told_dead (answer.Shown text) h = absurd h

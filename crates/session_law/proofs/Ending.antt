@@ -38,6 +38,7 @@ use Rattle.cnvm_session.specs.declared.answer.Answer.{Answer}
 use Rattle.cnvm_session.specs.declared.answer.Answer.TheVariants as answer
 use Rattle.cnvm_session.specs.declared.program.Program.{Program}
 use Rattle.cnvm_session.specs.Marks.{rolls_back_of, looks_of, policy_of, owes_marked}
+use Rattle.cnvm_session.specs.Marks.{unsigned_of, owes_unsigned}
 use Rattle.cnvm_session.specs.Commands as commanded
 use Rattle.cnvm_session.specs.Commands.{fallen, call_number, tx_parameters}
 use Rattle.cnvm_session.specs.Outcomes.{answer_of_call, answer_of_look, answer_of_recovery, RunsBy}
@@ -117,110 +118,112 @@ as_it_was a c d b safe is same not =
 
 module _ (p : Policy) (image : Image) (tx : ℕ) (args : List ℤ) (d b : Device) (k k1 : ℕ)
     (takes : TakesAll d) where
-  called_well : (r : CallAnswer) → Called r p image tx args d b k k1 → EndsWell (answer_of_call r) b
-  called_well (called.Done v l) h = (no, all_safe _ d b takes h.0.played)
-  called_well (called.Trap kind) h = (no, all_safe _ d b takes h.1.played)
-  called_well (called.Aborted kind) h = (no, all_safe _ d b takes h.1.played)
-  called_well (called.Off at) h = absurd (off_never _ d b takes h.0)
-  called_well called.Failed h = absurd (failed_never _ d b takes h)
-  called_well called.NoMemory h = (no, part_safe _ d b takes h)
-  called_well (called.Unusable kind) h = absurd h
-  called_well called.Numbers h = absurd h
+  called_well : (u : Bool) (r : CallAnswer) → Called r p image tx args d b k k1
+      → EndsWell (answer_of_call u r) b
+  called_well u (called.Done v l) h = (no, all_safe _ d b takes h.0.played)
+  called_well u (called.Trap kind) h = (no, all_safe _ d b takes h.1.played)
+  called_well u (called.Aborted kind) h = (no, all_safe _ d b takes h.1.played)
+  called_well u (called.Off at) h = absurd (off_never _ d b takes h.0)
+  called_well u called.Failed h = absurd (failed_never _ d b takes h)
+  called_well u called.NoMemory h = (no, part_safe _ d b takes h)
+  called_well u (called.Unusable kind) h = absurd h
+  called_well u called.Numbers h = absurd h
 
   -- by what the pool says of calls
-  tx_well : (r : CallAnswer) → IsTxCalled r p image tx args d b k k1
-      → EndsWell (answer_of_call r) b
-  tx_well r is = by_standing (standing_of (view d.cache)) refl
+  tx_well : (u : Bool) (r : CallAnswer) → IsTxCalled r p image tx args d b k k1
+      → EndsWell (answer_of_call u r) b
+  tx_well u r is = by_standing (standing_of (view d.cache)) refl
     where
       by_standing : (st : stands.Standing) → standing_of (view d.cache) ≡ st
-          → EndsWell (answer_of_call r) b
-      by_standing stand.Ready same = called_well r (is.ready takes.0 same)
+          → EndsWell (answer_of_call u r) b
+      by_standing stand.Ready same = called_well u r (is.ready takes.0 same)
       by_standing (stand.Unusable kind) same =
           let h = is.unusable kind takes.0 same in
-          as_it_was (answer_of_call r) (answer.RefusedUnusable kind) d b takes.1
-          (ap answer_of_call h.0) h.1 no
+          as_it_was (answer_of_call u r) (answer.RefusedUnusable kind) d b takes.1
+          (ap (answer_of_call u) h.0) h.1 no
       by_standing stand.Numbers same =
           let h = is.numbers takes.0 same in
-          as_it_was (answer_of_call r) answer.RefusedNumbers d b takes.1
-          (ap answer_of_call h.0) h.1 no
+          as_it_was (answer_of_call u r) answer.RefusedNumbers d b takes.1
+          (ap (answer_of_call u) h.0) h.1 no
       by_standing stand.Off same = absurd (never_off (view d.cache) same)
 
-runs_well : (marked : Bool) (image : Image) (tx : ℕ) (args : List ℤ) (d b : Device) (k k1 : ℕ)
-    → TakesAll d → (a : Answer) (n : Mode) → RunsBy marked image tx args d a n b k k1
+runs_well : (marked u : Bool) (image : Image) (tx : ℕ) (args : List ℤ) (d b : Device) (k k1 : ℕ)
+    → TakesAll d → (a : Answer) (n : Mode) → RunsBy marked u image tx args d a n b k k1
     → EndsWell a b
-runs_well marked image tx args d b k k1 takes a n runs =
+runs_well marked u image tx args d b k k1 takes a n runs =
     subst (λ (x : Answer). EndsWell x b) (sym runs.answer)
-    (tx_well (policy_of marked) image tx args d b k k1 takes runs.tx_answer runs.called)
+    (tx_well (policy_of marked) image tx args d b k k1 takes u runs.tx_answer runs.called)
 
 -- nor is a look interrupted
-look_ends : (r : LookAnswer) → (r ≡ looked.Off → ⊥) → IsInterrupted (answer_of_look r) → ⊥
-look_ends (looked.Done v) on is = is
-look_ends (looked.Aborted kind) on is = is
-look_ends looked.Off on is = on refl
-look_ends looked.NoMemory on is = is
+look_ends : (u : Bool) (r : LookAnswer) → (r ≡ looked.Off → ⊥)
+    → IsInterrupted (answer_of_look u r) → ⊥
+look_ends u (looked.Done v) on is = is
+look_ends u (looked.Aborted kind) on is = is
+look_ends u looked.Off on is = on refl
+look_ends u looked.NoMemory on is = is
 
-any_well : (looks marked : Bool) (image : Image) (tx : ℕ) (args : List ℤ) (d b : Device) (k k1 : ℕ)
-    → TakesAll d → (a : Answer) (n : Mode) → RunsAs looks marked image tx args d a n b k k1
-    → EndsWell a b
-any_well true marked image tx args d b k k1 takes a n is =
-    as_it_was a (answer_of_look is.seen) d b takes.1 is.answer is.same
-    (look_ends is.seen (look_is_on is.seen image tx args d k k1 takes.0 is.looked))
-any_well false marked image tx args d b k k1 takes a n is =
-    runs_well marked image tx args d b k k1 takes a n is
+any_well : (looks marked u : Bool) (image : Image) (tx : ℕ) (args : List ℤ) (d b : Device)
+    (k k1 : ℕ) → TakesAll d → (a : Answer) (n : Mode) → RunsAs looks marked u image tx args d a n b
+    k k1 → EndsWell a b
+any_well true marked u image tx args d b k k1 takes a n is =
+    as_it_was a (answer_of_look u is.seen) d b takes.1 is.answer is.same
+    (look_ends u is.seen (look_is_on is.seen image tx args d k k1 takes.0 is.looked))
+any_well false marked u image tx args d b k k1 takes a n is =
+    runs_well marked u image tx args d b k k1 takes a n is
 
 module _ (p : Policy) (image : Image) (d b : Device) (k k1 : ℕ) (takes : TakesAll d) where
-  cleaned_well : (es : List CacheEvent) (r : RecoverAnswer) → Cleaned r d es b
-      → EndsWell (answer_of_recovery r) b
-  cleaned_well es recovered.Clean h = (no, all_safe es d b takes h)
-  cleaned_well es (recovered.Off phase.Unsealed) h = absurd (off_never es d b takes h)
-  cleaned_well es (recovered.Off phase.Sealing) h = absurd h
-  cleaned_well es (recovered.Off phase.Sealed) h = absurd h
-  cleaned_well es recovered.Failed h = absurd (failed_never es d b takes h)
-  cleaned_well es recovered.NoMemory h = (no, part_safe es d b takes h)
-  cleaned_well es (recovered.Redone v l) h = absurd h
-  cleaned_well es (recovered.Trap kind) h = absurd h
-  cleaned_well es (recovered.Aborted kind) h = absurd h
-  cleaned_well es (recovered.Unusable kind) h = absurd h
-  cleaned_well es recovered.Numbers h = absurd h
+  cleaned_well : (u : Bool) (es : List CacheEvent) (r : RecoverAnswer) → Cleaned r d es b
+      → EndsWell (answer_of_recovery u r) b
+  cleaned_well u es recovered.Clean h = (no, all_safe es d b takes h)
+  cleaned_well u es (recovered.Off phase.Unsealed) h = absurd (off_never es d b takes h)
+  cleaned_well u es (recovered.Off phase.Sealing) h = absurd h
+  cleaned_well u es (recovered.Off phase.Sealed) h = absurd h
+  cleaned_well u es recovered.Failed h = absurd (failed_never es d b takes h)
+  cleaned_well u es recovered.NoMemory h = (no, part_safe es d b takes h)
+  cleaned_well u es (recovered.Redone v l) h = absurd h
+  cleaned_well u es (recovered.Trap kind) h = absurd h
+  cleaned_well u es (recovered.Aborted kind) h = absurd h
+  cleaned_well u es (recovered.Unusable kind) h = absurd h
+  cleaned_well u es recovered.Numbers h = absurd h
 
-  redid_well : (tx : ℕ) (args : List ℤ) (n : ℕ) (r : RecoverAnswer)
-      → Redid r p image tx args n d b k k1 → EndsWell (answer_of_recovery r) b
-  redid_well tx args n (recovered.Redone v l) h = (no, all_safe _ d b takes h.0.played)
-  redid_well tx args n (recovered.Trap kind) h = (no, all_safe _ d b takes h.1.played)
-  redid_well tx args n (recovered.Aborted kind) h = (no, all_safe _ d b takes h.1.played)
-  redid_well tx args n (recovered.Off phase.Sealed) h = absurd (off_never _ d b takes h)
-  redid_well tx args n (recovered.Off phase.Unsealed) h = absurd h
-  redid_well tx args n (recovered.Off phase.Sealing) h = absurd h
-  redid_well tx args n recovered.Failed h = absurd (failed_never _ d b takes h)
-  redid_well tx args n recovered.NoMemory (inl same) =
+  redid_well : (u : Bool) (tx : ℕ) (args : List ℤ) (n : ℕ) (r : RecoverAnswer)
+      → Redid r p image tx args n d b k k1 → EndsWell (answer_of_recovery u r) b
+  redid_well u tx args n (recovered.Redone v l) h = (no, all_safe _ d b takes h.0.played)
+  redid_well u tx args n (recovered.Trap kind) h = (no, all_safe _ d b takes h.1.played)
+  redid_well u tx args n (recovered.Aborted kind) h = (no, all_safe _ d b takes h.1.played)
+  redid_well u tx args n (recovered.Off phase.Sealed) h = absurd (off_never _ d b takes h)
+  redid_well u tx args n (recovered.Off phase.Unsealed) h = absurd h
+  redid_well u tx args n (recovered.Off phase.Sealing) h = absurd h
+  redid_well u tx args n recovered.Failed h = absurd (failed_never _ d b takes h)
+  redid_well u tx args n recovered.NoMemory (inl same) =
       (no, subst IsSafe (sym same.0) takes.1)
-  redid_well tx args n recovered.NoMemory (inr part) = (no, part_safe _ d b takes part)
-  redid_well tx args n recovered.Clean h = absurd h
-  redid_well tx args n (recovered.Unusable kind) h = absurd h
-  redid_well tx args n recovered.Numbers h = absurd h
+  redid_well u tx args n recovered.NoMemory (inr part) = (no, part_safe _ d b takes part)
+  redid_well u tx args n recovered.Clean h = absurd h
+  redid_well u tx args n (recovered.Unusable kind) h = absurd h
+  redid_well u tx args n recovered.Numbers h = absurd h
 
   abbrev mark : ℤ
   mark = view d.cache MARK
 
-  module _ (r : RecoverAnswer) (is : IsRecovered r p image d b k k1) where
+  module _ (u : Bool) (r : RecoverAnswer) (is : IsRecovered r p image d b k k1) where
     abbrev Well : Type 0
-    Well = EndsWell (answer_of_recovery r) b
+    Well = EndsWell (answer_of_recovery u r) b
 
     numbers_well : (r ≡ recovered.Numbers) × (b ≡ d) × (k1 ≡ k) → Well
     numbers_well h =
-        as_it_was (answer_of_recovery r) answer.RefusedNumbers d b takes.1
-        (ap answer_of_recovery h.0) h.1 no
+        as_it_was (answer_of_recovery u r) answer.RefusedNumbers d b takes.1
+        (ap (answer_of_recovery u) h.0) h.1 no
 
     by_name : (x : Bool) → names_tx image (tx_in d) ≡ x → mark ≡ pos 0
         → numbers_out image d ≡ false → is_sealed (view d.cache) ≡ true → Well
     by_name true names zero few seal =
-        redid_well _ _ _ r (is.redid takes.0 zero few seal names)
+        redid_well u _ _ _ r (is.redid takes.0 zero few seal names)
     by_name false names zero few seal = numbers_well (is.unnamed takes.0 zero few seal names)
 
     by_seal : (x : Bool) → is_sealed (view d.cache) ≡ x → mark ≡ pos 0
         → numbers_out image d ≡ false → Well
     by_seal true seal zero few = by_name (names_tx image (tx_in d)) refl zero few seal
-    by_seal false seal zero few = cleaned_well _ r (is.clean takes.0 zero few seal)
+    by_seal false seal zero few = cleaned_well u _ r (is.clean takes.0 zero few seal)
 
     by_numbers : (x : Bool) → numbers_out image d ≡ x → mark ≡ pos 0 → Well
     by_numbers true out zero = numbers_well (is.numbers takes.0 zero out)
@@ -234,37 +237,37 @@ module _ (p : Policy) (image : Image) (d b : Device) (k k1 : ℕ) (takes : Takes
         let clash : true ≡ false = sym ((Decides-int_eq mark (pos 0)).1 zero) ∙ other in
         absurd cc in
         let h = is.unusable takes.0 marks in
-        as_it_was (answer_of_recovery r) (answer.RefusedUnusable _) d b takes.1
-        (ap answer_of_recovery h.0) h.1 no
+        as_it_was (answer_of_recovery u r) (answer.RefusedUnusable _) d b takes.1
+        (ap (answer_of_recovery u) h.0) h.1 no
 
     recovered_well : Well
     recovered_well = by_mark (int_eq mark (pos 0)) refl
 
-recovers_well : (image : Image) (d b : Device) (k k1 : ℕ) → TakesAll d → (marked : Bool)
-    (a : Answer) (n : Mode) → RecoversBy marked image d a n b k k1 → EndsWell a b
-recovers_well image d b k k1 takes marked a n h =
+recovers_well : (image : Image) (d b : Device) (k k1 : ℕ) → TakesAll d → (marked u : Bool)
+    (a : Answer) (n : Mode) → RecoversBy marked u image d a n b k k1 → EndsWell a b
+recovers_well image d b k k1 takes marked u a n h =
     subst (λ (x : Answer). EndsWell x b) (sym h.answer)
-    (recovered_well (policy_of marked) image d b k k1 takes h.tx_answer h.recovered)
+    (recovered_well (policy_of marked) image d b k k1 takes u h.tx_answer h.recovered)
 
 -- the answers of a recovery that isn't interrupted
-recovery_ends : (r : RecoverAnswer) → (IsInterrupted (answer_of_recovery r) → ⊥)
-    → IsRecoveryEnd (answer_of_recovery r)
-recovery_ends recovered.Clean not = tt
-recovery_ends (recovered.Redone v l) not = tt
-recovery_ends (recovered.Trap kind) not = tt
-recovery_ends (recovered.Aborted kind) not = tt
-recovery_ends (recovered.Off at) not = absurd (not tt)
-recovery_ends recovered.Failed not = absurd (not tt)
-recovery_ends recovered.NoMemory not = tt
-recovery_ends (recovered.Unusable kind) not = tt
-recovery_ends recovered.Numbers not = tt
+recovery_ends : (u : Bool) (r : RecoverAnswer) → (IsInterrupted (answer_of_recovery u r) → ⊥)
+    → IsRecoveryEnd (answer_of_recovery u r)
+recovery_ends u recovered.Clean not = tt
+recovery_ends u (recovered.Redone v l) not = tt
+recovery_ends u (recovered.Trap kind) not = tt
+recovery_ends u (recovered.Aborted kind) not = tt
+recovery_ends u (recovered.Off at) not = absurd (not tt)
+recovery_ends u recovered.Failed not = absurd (not tt)
+recovery_ends u recovered.NoMemory not = tt
+recovery_ends u (recovered.Unusable kind) not = tt
+recovery_ends u recovered.Numbers not = tt
 
-recovers_end : (image : Image) (d b : Device) (k k1 : ℕ) → TakesAll d → (marked : Bool)
-    (a : Answer) (n : Mode) → RecoversBy marked image d a n b k k1 → IsRecoveryEnd a
-recovers_end image d b k k1 takes marked a n h =
+recovers_end : (image : Image) (d b : Device) (k k1 : ℕ) → TakesAll d → (marked u : Bool)
+    (a : Answer) (n : Mode) → RecoversBy marked u image d a n b k k1 → IsRecoveryEnd a
+recovers_end image d b k k1 takes marked u a n h =
     subst IsRecoveryEnd (sym h.answer)
-    (recovery_ends h.tx_answer
-    (recovered_well (policy_of marked) image d b k k1 takes h.tx_answer h.recovered).0)
+    (recovery_ends u h.tx_answer
+    (recovered_well (policy_of marked) image d b k k1 takes u h.tx_answer h.recovered).0)
 
 module _ (program : Program) (a : Answer) (n : Mode) (b : Device) (k k1 : ℕ) where
   refused_well : (why : Answer) (m : Mode) (d : Device) → IsSafe d → (IsInterrupted why → ⊥)
@@ -275,7 +278,8 @@ module _ (program : Program) (a : Answer) (n : Mode) (b : Device) (k k1 : ℕ) w
     by_count : (tx : ℕ) (x : Bool) → commanded.CallsWith x program tx args d a n b k k1
         → EndsWell a b
     by_count tx true h =
-        any_well (looks_of program tx) (rolls_back_of program tx) program.image tx args d b k k1
+        any_well (looks_of program tx) (rolls_back_of program tx) (unsigned_of program tx)
+        program.image tx args d b k k1
         takes a n h
     by_count tx false h = refused_well answer.RefusedArity mode.Ready d takes.1 no h
 
@@ -310,9 +314,11 @@ module _ (program : Program) (a : Answer) (n : Mode) (b : Device) (k k1 : ℕ) w
         let recovers = h.2 none is in
         let up : TakesAll (powered choice d) = (refl, safe) in (
           recovers_well program.image (powered choice d) b k k1 up
-              (owes_marked program (powered choice d)) a n recovers,
+              (owes_marked program (powered choice d))
+              (owes_unsigned program (powered choice d)) a n recovers,
           recovers_end program.image (powered choice d) b k k1 up
-              (owes_marked program (powered choice d)) a n recovers,
+              (owes_marked program (powered choice d))
+              (owes_unsigned program (powered choice d)) a n recovers,
         )
 
     by_fallen : (choice : Choice) (m : Mode) (x : Option ℕ) → fallen 0 choice.picks ≡ x
@@ -339,13 +345,13 @@ module _ (program : Program) (a : Answer) (n : Mode) (b : Device) (k k1 : ℕ) w
             → commanded.Tells (shapes_of program.typed) program.image.parts.sizes d x n
             → IsInterrupted x → ⊥
         tells_end answer.Silent tells broken = broken
-        tells_end (answer.Done value logged) tells broken = broken
+        tells_end (answer.Done value unsigned logged) tells broken = broken
         tells_end (answer.Trap kind) tells broken = broken
         tells_end (answer.Aborted kind) tells broken = broken
         tells_end (answer.Stopped at) tells broken = tells
         tells_end answer.DeviceFault tells broken = tells
         tells_end answer.RecoveredNone tells broken = broken
-        tells_end (answer.RecoveredRedone value logged) tells broken = broken
+        tells_end (answer.RecoveredRedone value unsigned logged) tells broken = broken
         tells_end (answer.RecoveredTrap kind) tells broken = broken
         tells_end (answer.RecoveredAborted kind) tells broken = broken
         tells_end (answer.Shown text) tells broken = broken

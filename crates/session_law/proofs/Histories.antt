@@ -152,7 +152,7 @@ module _ (program : Program) where
 
   -- where no call counts, none does
   pub none_counts : (a : Answer) → called_by [] a ≡ []
-  none_counts (answer.Done value logged) = refl
+  none_counts (answer.Done value unsigned logged) = refl
   none_counts (answer.Aborted kind) = refl
   none_counts (answer.Trap kind) = refl
   none_counts (answer.Stopped p) = refl
@@ -160,7 +160,7 @@ module _ (program : Program) where
   none_counts answer.NoMemory = refl
   none_counts answer.Silent = refl
   none_counts answer.RecoveredNone = refl
-  none_counts (answer.RecoveredRedone value logged) = refl
+  none_counts (answer.RecoveredRedone value unsigned logged) = refl
   none_counts (answer.RecoveredTrap kind) = refl
   none_counts (answer.RecoveredAborted kind) = refl
   none_counts (answer.Shown text) = refl
@@ -202,7 +202,7 @@ module _ (program : Program) where
     runs_done : (tx : ℕ) (a : Answer) →
         RunsBy (rolls_back_of program tx) program s image tx args a t →
         HasDone program s t (called_by (called tx) a) (called tx)
-    runs_done tx (answer.Done value logged) is =
+    runs_done tx (answer.Done value unsigned logged) is =
         one_finished s t (call tx) Ready (called tx) refl
         (logged, Done is.0 value, is.1, is.2) (right tx)
     runs_done tx (answer.Aborted kind) is =
@@ -217,7 +217,7 @@ module _ (program : Program) where
     runs_done tx answer.RefusedNumbers is = same_done s t (called tx) is.1
     runs_done tx answer.Silent is = absurd is
     runs_done tx answer.RecoveredNone is = absurd is
-    runs_done tx (answer.RecoveredRedone value logged) is = absurd is
+    runs_done tx (answer.RecoveredRedone value unsigned logged) is = absurd is
     runs_done tx (answer.RecoveredTrap kind) is = absurd is
     runs_done tx (answer.RecoveredAborted kind) is = absurd is
     runs_done tx (answer.Shown text) is = absurd is
@@ -337,7 +337,7 @@ module _ (program : Program) where
 
   -- the owed transaction, if the recovery ran it to a value or rolled it back
   abbrev redone_by : Standing → Answer → List Pending
-  redone_by st (answer.RecoveredRedone value logged) = waiting_of st
+  redone_by st (answer.RecoveredRedone value unsigned logged) = waiting_of st
   redone_by st (answer.RecoveredAborted kind) = waiting_of st
   redone_by st a = []
 
@@ -392,10 +392,10 @@ module _ (program : Program) where
   rests_done s t image answer.DeviceFault is = same_done s t [] is
   rests_done s t image answer.NoMemory is = same_done s t [] is
   rests_done s t image answer.Silent is = absurd is
-  rests_done s t image (answer.Done value logged) is = absurd is
+  rests_done s t image (answer.Done value unsigned logged) is = absurd is
   rests_done s t image (answer.Trap kind) is = absurd is
   rests_done s t image (answer.Aborted kind) is = absurd is
-  rests_done s t image (answer.RecoveredRedone value logged) is = absurd is
+  rests_done s t image (answer.RecoveredRedone value unsigned logged) is = absurd is
   rests_done s t image (answer.RecoveredTrap kind) is = absurd is
   rests_done s t image (answer.RecoveredAborted kind) is = absurd is
   rests_done s t image (answer.Shown text) is = absurd is
@@ -410,7 +410,7 @@ module _ (program : Program) where
   redoes_done : (owed : Pending) (s t : SourceState) (image : Words) (a : Answer) →
       s.standing ≡ Down (Some owed) → Redoes program owed s image a t →
       HasDone program s t (redone_by (Down (Some owed)) a) []
-  redoes_done owed s t image (answer.RecoveredRedone value logged) at is =
+  redoes_done owed s t image (answer.RecoveredRedone value unsigned logged) at is =
       one_finished s t owed Ready [] refl (logged, Done is.0 value, is.1, is.2)
       (part_at s (Down (Some owed)) (owed ∷ []) at (part_same (owed ∷ [])))
   redoes_done owed s t image (answer.RecoveredAborted kind) at is =
@@ -423,7 +423,7 @@ module _ (program : Program) where
   redoes_done owed s t image answer.DeviceFault at is = same_done s t [] is
   redoes_done owed s t image answer.NoMemory at is = same_done s t [] is
   redoes_done owed s t image answer.Silent at is = absurd is
-  redoes_done owed s t image (answer.Done value logged) at is = absurd is
+  redoes_done owed s t image (answer.Done value unsigned logged) at is = absurd is
   redoes_done owed s t image (answer.Trap kind) at is = absurd is
   redoes_done owed s t image (answer.Aborted kind) at is = absurd is
   redoes_done owed s t image answer.RecoveredNone at is = absurd is
@@ -507,16 +507,17 @@ module _ (program : Program) where
     powers_done (answer.RefusedPick line) is = same_done s t [] is
     powers_done (answer.RefusedUnusable kind) is =
         only_standing s t (Unusable kind) [] is.2 (part_none (waiting_of s.standing ++ []))
-    powers_done (answer.RecoveredRedone value logged) is =
-        back_with (answer.RecoveredRedone value logged) is
-        (redone_parts (answer.RecoveredRedone value logged) t image (λ found no. no) s is.1.0
-        s.standing refl is.1.1 is.1.2)
+    powers_done (answer.RecoveredRedone value unsigned logged) is =
+        back_with (answer.RecoveredRedone value unsigned logged) is
+        (redone_parts (answer.RecoveredRedone value unsigned logged) t image (λ found no. no) s
+        is.1.0 s.standing refl is.1.1 is.1.2)
     powers_done (answer.RecoveredAborted kind) is =
         back_with (answer.RecoveredAborted kind) is
         (redone_parts (answer.RecoveredAborted kind) t image (λ found no. no) s is.1.0
         s.standing refl is.1.1 is.1.2)
     powers_done answer.Silent is = back_with answer.Silent is none
-    powers_done (answer.Done value logged) is = back_with (answer.Done value logged) is none
+    powers_done (answer.Done value unsigned logged) is =
+        back_with (answer.Done value unsigned logged) is none
     powers_done (answer.Trap kind) is = back_with (answer.Trap kind) is none
     powers_done (answer.Aborted kind) is = back_with (answer.Aborted kind) is none
     powers_done (answer.Stopped p) is = back_with (answer.Stopped p) is none
@@ -540,13 +541,13 @@ module _ (program : Program) where
   tells_done s t answer.NoMemory is =
       only_standing s t (Down None) [] is (part_none (waiting_of s.standing ++ []))
   tells_done s t answer.Silent is = absurd is
-  tells_done s t (answer.Done value logged) is = absurd is
+  tells_done s t (answer.Done value unsigned logged) is = absurd is
   tells_done s t (answer.Trap kind) is = absurd is
   tells_done s t (answer.Aborted kind) is = absurd is
   tells_done s t (answer.Stopped p) is = absurd is
   tells_done s t answer.DeviceFault is = absurd is
   tells_done s t answer.RecoveredNone is = absurd is
-  tells_done s t (answer.RecoveredRedone value logged) is = absurd is
+  tells_done s t (answer.RecoveredRedone value unsigned logged) is = absurd is
   tells_done s t (answer.RecoveredTrap kind) is = absurd is
   tells_done s t (answer.RecoveredAborted kind) is = absurd is
   tells_done s t (answer.Last n value) is = absurd is

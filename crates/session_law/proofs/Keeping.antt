@@ -29,6 +29,7 @@ use Rattle.cnvm_session.specs.declared.answer.Answer.{Answer}
 use Rattle.cnvm_session.specs.declared.answer.Answer.TheVariants as answer
 use Rattle.cnvm_session.specs.declared.program.Program.{Program}
 use Rattle.cnvm_session.specs.Marks.{rolls_back_of, policy_of, owes_marked}
+use Rattle.cnvm_session.specs.Marks.{owes_unsigned}
 use Rattle.cnvm_session.specs.Outcomes.{answer_of_recovery, RecoversBy}
 use Rattle.cnvm_session.specs.Outcomes as outcomes
 use Rattle.cnvm_session.specs.Pool.{sizes_of}
@@ -128,10 +129,13 @@ module _ (program : Program) (super : Words) (agrees : Agrees program) (h : Word
         × ((found : SourceState) × FindsOwed s.standing program s one found
         × Recovers found.standing program found one x t)
 
+    abbrev typed : Bool
+    typed = owes_unsigned program e
+
     by_owed : (marked : Bool) → owes_marked program e ≡ marked
-        → RecoversBy marked program.image e a n b k k1
+        → RecoversBy marked typed program.image e a n b k k1
     by_owed marked owes =
-        subst (λ (x : Bool). RecoversBy x program.image e a n b k k1) owes is
+        subst (λ (x : Bool). RecoversBy x typed program.image e a n b k k1) owes is
 
     unusable : (kind : TrapKind) → t ≡ standing_as (Unusable kind) s → Keeps s b t
     unusable kind same = leaf s t (standing_as (Unusable kind) s) b same refl refl tt
@@ -148,10 +152,10 @@ module _ (program : Program) (super : Words) (agrees : Agrees program) (h : Word
       rests x back = subst (λ (st : Standing). Recovers st program back.1.0 one x t)
           (finds back.1.0 back.1.1).0 back.1.2
 
-      told : (r : RecoverAnswer) → Powers program s one (answer_of_recovery r) t → Told
+      told : (r : RecoverAnswer) → Powers program s one (answer_of_recovery typed r) t → Told
       told recovered.Clean p =
           inl (Ready, p.1.0, (finds p.1.0 p.1.1).1, rests answer.RecoveredNone p)
-      told (recovered.Redone v l) p = absurd (rests (answer.RecoveredRedone v l) p)
+      told (recovered.Redone v l) p = absurd (rests (answer.RecoveredRedone v typed l) p)
       told (recovered.Trap kind) p = absurd (rests (answer.RecoveredTrap kind) p)
       told (recovered.Aborted kind) p = absurd (rests (answer.RecoveredAborted kind) p)
       told (recovered.Unusable kind) p = inr (kind, p.2)
@@ -181,8 +185,8 @@ module _ (program : Program) (super : Words) (agrees : Agrees program) (h : Word
       )
 
       -- so no transaction is rolled back
-      never_rolls : (r : RecoverAnswer) → IsRollback (answer_of_recovery r)
-          → Powers program s one (answer_of_recovery r) t → ⊥
+      never_rolls : (r : RecoverAnswer) → IsRollback (answer_of_recovery typed r)
+          → Powers program s one (answer_of_recovery typed r) t → ⊥
       never_rolls recovered.Clean rolls p = rolls
       never_rolls (recovered.Redone v l) rolls p = rolls
       never_rolls (recovered.Trap kind) rolls p = rolls
@@ -242,8 +246,8 @@ module _ (program : Program) (super : Words) (agrees : Agrees program) (h : Word
 
     from_lost : (kind : TrapKind) → Lost pool.sizes (trap_number kind) one → Keeps s b t
     from_lost kind lost =
-        let found = marked_recovers program e b kind (owes_marked program e) a n k k1 on lost.0
-        (is_marked (one MARK) (trap_number kind) lost.0 lost.1) is in
+        let found = marked_recovers program e b kind (owes_marked program e) typed a n k k1 on
+        lost.0 (is_marked (one MARK) (trap_number kind) lost.0 lost.1) is in
         unusable kind (subst (λ (x : Answer). Powers program s one x t) found.0 powers).2
 
     module _ (owed : Pending) (standing : s.standing ≡ Down (Some owed)) where
@@ -382,12 +386,12 @@ module _ (program : Program) (super : Words) (agrees : Agrees program) (h : Word
           stays r did same = still sealed.sealed sealed.done marked mark (after r did) same
 
           redone_keeps : (r : RecoverAnswer) → IsRecovered r p program.image e b k k1
-              → Powers program s one (answer_of_recovery r) t
-              → FinishesNone s (answer_of_recovery r) t → Keeps s b t
+              → Powers program s one (answer_of_recovery typed r) t
+              → FinishesNone s (answer_of_recovery typed r) t → Keeps s b t
           redone_keeps recovered.Clean did q only = absurd (at answer.RecoveredNone q)
           redone_keeps (recovered.Redone v l) did q only =
-              let done = at (answer.RecoveredRedone v l) q in
-              absurd (not_finished s t (answer.RecoveredRedone v l)
+              let done = at (answer.RecoveredRedone v typed l) q in
+              absurd (not_finished s t (answer.RecoveredRedone v typed l)
               (ap (λ (x : SourceState). x.done) done.2) (λ rolls. rolls) only)
           redone_keeps (recovered.Trap kind) did q only =
               unusable kind (at (answer.RecoveredTrap kind) q).2

@@ -27,7 +27,7 @@ use Rattle.cnvm_session.specs.declared.mode.Mode.TheVariants as mode
 use Rattle.cnvm_session.specs.declared.answer.Answer.{Answer}
 use Rattle.cnvm_session.specs.declared.answer.Answer.TheVariants as answer
 use Rattle.cnvm_session.specs.declared.program.Program.{Program}
-use Rattle.cnvm_session.specs.Marks.{rolls_back_of, looks_of, policy_of}
+use Rattle.cnvm_session.specs.Marks.{rolls_back_of, looks_of, policy_of, unsigned_of}
 use Rattle.cnvm_session.specs.Outcomes.{answer_of_call}
 use Rattle.cnvm_session.specs.Outcomes as outcomes
 use Rattle.cnvm_session.specs.Commands as commanded
@@ -157,48 +157,48 @@ module _ (program : Program) (super : Words) (agrees : Agrees program) (h : Word
                 (stands_numbers image resting.before.good.mark numbers)).0 in
                 absurd cc
 
-        call_kept : (r : CallAnswer) → IsTxCalled r p program.image tx args d b k k1
-            → RunsBy marked program s image tx args (answer_of_call r) t
-            → FinishesNone s (answer_of_call r) t → Kept s b t
-        call_kept (called.Done v l) did runs only =
-            absurd (not_finished s t (answer.Done v l)
+        call_kept : (u : Bool) (r : CallAnswer) → IsTxCalled r p program.image tx args d b k k1
+            → RunsBy marked program s image tx args (answer_of_call u r) t
+            → FinishesNone s (answer_of_call u r) t → Kept s b t
+        call_kept u (called.Done v l) did runs only =
+            absurd (not_finished s t (answer.Done v u l)
             (ap (λ (x : SourceState). x.done) runs.2) (λ rolls. rolls) only)
-        call_kept (called.Trap kind) did runs only =
+        call_kept u (called.Trap kind) did runs only =
             leaf program super agrees h s t (standing_as (Unusable kind) s) b runs.2 refl refl tt
-        call_kept (called.Aborted kind) did runs only =
+        call_kept u (called.Aborted kind) did runs only =
             let rested : IsResting program super b (undone_as Ready s) =
             (subst (λ (x : SourceState). Holds program super n b x) runs.2 holds).1 in
             leaf program super agrees h s t (undone_as Ready s) b runs.2 refl refl
             (resting_whole program super agrees h b (undone_as Ready s) rested
             (λ w less. (back kind did).heap w less ∙ same_heap w less))
-        call_kept (called.Off at) did runs only =
+        call_kept u (called.Off at) did runs only =
             cut_off (called.Off at) did (λ clash. absurd cc) runs
-        call_kept called.Failed did runs only =
+        call_kept u called.Failed did runs only =
             cut_off called.Failed did (λ clash. absurd cc) runs
-        call_kept called.NoMemory did runs only =
+        call_kept u called.NoMemory did runs only =
             cut_off called.NoMemory did (λ clash. absurd cc) runs
-        call_kept (called.Unusable kind) did runs only = absurd runs
-        call_kept called.Numbers did runs only =
+        call_kept u (called.Unusable kind) did runs only = absurd runs
+        call_kept u called.Numbers did runs only =
             stays runs.1
             (did.numbers resting.on (stands_numbers image resting.before.good.mark runs.0)).1
 
-      by_mark : (marked : Bool) → rolls_back_of program tx ≡ marked
-          → outcomes.RunsBy marked program.image tx args d a n b k k1
+      by_mark : (marked u : Bool) → rolls_back_of program tx ≡ marked
+          → outcomes.RunsBy marked u program.image tx args d a n b k k1
           → RunsBy marked program s image tx args a t → Kept s b t
-      by_mark marked mark did runs =
-          call_kept marked mark did.tx_answer did.called
+      by_mark marked u mark did runs =
+          call_kept marked mark u did.tx_answer did.called
           (subst (λ (x : Answer). RunsBy marked program s image tx args x t) did.answer runs)
           (subst (λ (x : Answer). FinishesNone s x t) did.answer none)
 
-      by_marks : (looks marked : Bool) → rolls_back_of program tx ≡ marked
-          → outcomes.RunsAs looks marked program.image tx args d a n b k k1
+      by_marks : (looks marked u : Bool) → rolls_back_of program tx ≡ marked
+          → outcomes.RunsAs looks marked u program.image tx args d a n b k k1
           → RunsAs looks marked program s image tx args a t → Kept s b t
-      by_marks true marked mark did runs =
+      by_marks true marked u mark did runs =
           ⊎_elim (λ same. stays same did.same)
           (λ down. leaf program super agrees h s t (standing_as (Down None) s) b down.1 refl refl
           (subst (Images (Restores program h)) (sym (ap (λ (x : Device). x.cache) did.same)) keeps))
           (looked_state program s t tx args a runs)
-      by_marks false marked mark did runs = by_mark marked mark did runs
+      by_marks false marked u mark did runs = by_mark marked u mark did runs
 
     by_count : (tx count : ℕ) (same : Bool) → (count == length args) ≡ same
         → tx_parameters program.image tx ≡ Some count
@@ -206,7 +206,7 @@ module _ (program : Program) (super : Words) (agrees : Agrees program) (h : Word
         → CallsWith same program s image tx args a t → Kept s b t
     by_count tx count true same takes did calls =
         by_marks tx (takes ∙ ap (λ (i : ℕ). Some i) (eqb-true count (length args) same))
-        (looks_of program tx) (rolls_back_of program tx) refl did calls
+        (looks_of program tx) (rolls_back_of program tx) (unsigned_of program tx) refl did calls
     by_count tx count false same takes did calls = stays calls.1 did.2
 
     by_parameters : (tx : ℕ) (count : Option ℕ) → tx_parameters program.image tx ≡ count
@@ -259,13 +259,13 @@ module _ (program : Program) (super : Words) (agrees : Agrees program) (h : Word
     told_same (answer.ShownDead trap text) is = absurd is
     told_same answer.NoMemory is = inr is
     told_same answer.Silent is = absurd is
-    told_same (answer.Done v l) is = absurd is
+    told_same (answer.Done v u l) is = absurd is
     told_same (answer.Trap kind) is = absurd is
     told_same (answer.Aborted kind) is = absurd is
     told_same (answer.Stopped p) is = absurd is
     told_same answer.DeviceFault is = absurd is
     told_same answer.RecoveredNone is = absurd is
-    told_same (answer.RecoveredRedone v l) is = absurd is
+    told_same (answer.RecoveredRedone v u l) is = absurd is
     told_same (answer.RecoveredTrap kind) is = absurd is
     told_same (answer.RecoveredAborted kind) is = absurd is
     told_same (answer.Last f v) is = absurd is

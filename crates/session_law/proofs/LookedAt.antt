@@ -12,7 +12,7 @@ use Rattle.cnvm_session.specs.declared.answer.Answer.TheVariants as answer
 use Rattle.cnvm_session.specs.declared.program.Program.{Program}
 use Rattle.cnvm_session.specs.Commands as commanded
 use Rattle.cnvm_session.specs.Commands.{call_number, tx_parameters}
-use Rattle.cnvm_session.specs.Marks.{rolls_back_of, looks_of}
+use Rattle.cnvm_session.specs.Marks.{rolls_back_of, looks_of, unsigned_of}
 use Rattle.cnvm_session.specs.Outcomes as outcomes
 use Rattle.session_law.specs.Source.{source_parameters}
 use Rattle.session_law.specs.State.{Pending, Standing, Ready, Down, Unusable, SourceState}
@@ -27,13 +27,14 @@ use Rattle.session_law.proofs.Histories.{none_counts}
 module _ (program : Program) (tx : ℕ) (looks : looks_of program tx ≡ true) (args : List ℤ)
     (a : Answer) where
   module _ (d : Device) (n : Mode) (b : Device) (k k1 : ℕ) where
-    any_device : (x marked : Bool) → x ≡ true
-        → outcomes.RunsAs x marked program.image tx args d a n b k k1 → b ≡ d
-    any_device true marked is h = h.same
-    any_device false marked is h = absurd cc
+    any_device : (x marked u : Bool) → x ≡ true
+        → outcomes.RunsAs x marked u program.image tx args d a n b k k1 → b ≡ d
+    any_device true marked u is h = h.same
+    any_device false marked u is h = absurd cc
 
     with_device : (same : Bool) → commanded.CallsWith same program tx args d a n b k k1 → b ≡ d
-    with_device true h = any_device (looks_of program tx) (rolls_back_of program tx) looks h
+    with_device true h =
+        any_device (looks_of program tx) (rolls_back_of program tx) (unsigned_of program tx) looks h
     with_device false h = h.2
 
     to_device : (count : Option ℕ) → commanded.CallsTo count program tx args d a n b k k1 → b ≡ d

@@ -31,7 +31,7 @@ use Rattle.cnvm_session.specs.declared.answer.Answer.{Answer}
 use Rattle.cnvm_session.specs.declared.answer.Answer.TheVariants as answer
 use Rattle.cnvm_session.specs.declared.program.Program.{Program}
 use Rattle.cnvm_session.specs.Commands.{tx_parameters}
-use Rattle.cnvm_session.specs.Marks.{looks_of, policy_of}
+use Rattle.cnvm_session.specs.Marks.{looks_of, policy_of, unsigned_of}
 use Rattle.cnvm_session.specs.Outcomes.{answer_of_look, mode_of_look}
 use Rattle.cnvm_session.specs.Pool.{sizes_of}
 use Rattle.session_law.specs.Source.{means}
@@ -48,7 +48,7 @@ use Rattle.session_law.proofs.Resting.{resting_down, trapped_of}
 pub looked_state : (program : Program) (s t : SourceState) (tx : ℕ) (args : List ℤ) (a : Answer)
     → Looks program s tx args a t
     → (t ≡ s) ⊎ ((a ≡ answer.NoMemory) × (t ≡ standing_as (Down None) s))
-looked_state program s t tx args (answer.Done v l) is = inl is.2
+looked_state program s t tx args (answer.Done v u l) is = inl is.2
 looked_state program s t tx args (answer.Aborted kind) is = inl is.1
 looked_state program s t tx args answer.NoMemory is = inr (refl, is)
 looked_state program s t tx args answer.Silent is = absurd is
@@ -56,7 +56,7 @@ looked_state program s t tx args (answer.Trap kind) is = absurd is
 looked_state program s t tx args (answer.Stopped p) is = absurd is
 looked_state program s t tx args answer.DeviceFault is = absurd is
 looked_state program s t tx args answer.RecoveredNone is = absurd is
-looked_state program s t tx args (answer.RecoveredRedone v l) is = absurd is
+looked_state program s t tx args (answer.RecoveredRedone v u l) is = absurd is
 looked_state program s t tx args (answer.RecoveredTrap kind) is = absurd is
 looked_state program s t tx args (answer.RecoveredAborted kind) is = absurd is
 looked_state program s t tx args (answer.Shown text) is = absurd is
@@ -81,12 +81,12 @@ look_is_on r image tx args d k k1 on is off =
     (λ none. let clash : looked.NoMemory ≡ looked.Off = sym none.0 ∙ off in absurd cc) (is.on on)
 
 -- so its call is never stopped
-pub stopped_look : (r : LookAnswer) (at : Phase) → answer.Stopped at ≡ answer_of_look r
-    → r ≡ looked.Off
-stopped_look (looked.Done v) at is = absurd cc
-stopped_look (looked.Aborted kind) at is = absurd cc
-stopped_look looked.Off at is = refl
-stopped_look looked.NoMemory at is = absurd cc
+pub stopped_look : (u : Bool) (r : LookAnswer) (at : Phase)
+    → answer.Stopped at ≡ answer_of_look u r → r ≡ looked.Off
+stopped_look u (looked.Done v) at is = absurd cc
+stopped_look u (looked.Aborted kind) at is = absurd cc
+stopped_look u looked.Off at is = refl
+stopped_look u looked.NoMemory at is = absurd cc
 
 -- a run that only looks takes no record
 look_records : (C : ℕ) (g : Logging) (end : End) (es : List Effect) → AreLooks es
@@ -165,7 +165,8 @@ module _ (program : Program) (super : Words) (agrees : Agrees program) (d : Devi
   done_of (Trap kind) v is = absurd is
 
   abbrev Answered : LookAnswer → Type 0
-  Answered r = (t : SourceState) × Looks program s tx args (answer_of_look r) t
+  Answered r =
+      (t : SourceState) × Looks program s tx args (answer_of_look (unsigned_of program tx) r) t
       × Holds program super (mode_of_look r) d t
 
   module _ (ready : s.standing ≡ Ready) where
@@ -176,7 +177,7 @@ module _ (program : Program) (super : Words) (agrees : Agrees program) (d : Devi
     by_end : (e : End) → Matches program (means program s.pool tx args) e h
         → Answered (look_answer e)
     by_end (Halted v) is =
-        (s, (done_of (means program s.pool tx args) v is, refl, refl), at_ready)
+        (s, (done_of (means program s.pool tx args) v is, refl, refl, refl), at_ready)
     by_end (Trapped kind) is =
         (s, (trapped_of program (means program s.pool tx args) kind h is, refl), at_ready)
 
@@ -190,16 +191,17 @@ module _ (program : Program) (super : Words) (agrees : Agrees program) (d : Devi
         (is.on resting.on)
 
   -- a look that is run to its end takes the steps of its run
-  look_counts : (p : Policy) (r : LookAnswer) (k k1 : ℕ) → RanToEnd (answer_of_look r)
+  look_counts : (u : Bool) (p : Policy) (r : LookAnswer) (k k1 : ℕ)
+      → RanToEnd (answer_of_look u r)
       → IsLooked r program.image tx args d k k1
       → (tx_run p program.image program.image.parts.most h tx args
       ≡ Finished runs.end runs.effects) × (k1 ≡ k + run_steps p runs.end runs.effects)
-  look_counts p r k k1 ran_to is = (
+  look_counts u p r k k1 ran_to is = (
     records_law program.image program.image.parts.most (blank p) (start program.image tx args) h
         runs.end runs.effects runs.ran
         ∙ look_records (sizes_of program).records (blank p) runs.end runs.effects
         (runs.looks looks),
-    ⊎_elim counted (λ none. absurd (subst (λ (x : LookAnswer). RanToEnd (answer_of_look x)) none.0
+    ⊎_elim counted (λ none. absurd (subst (λ (x : LookAnswer). RanToEnd (answer_of_look u x)) none.0
         ran_to)) (is.on resting.on),
   )
     where
@@ -210,12 +212,12 @@ module _ (program : Program) (super : Words) (agrees : Agrees program) (d : Devi
           ran.1 ∙ ap (λ (n : ℕ). k + n) (own.steps_are
           ∙ sym (run_length p runs.end runs.effects (runs.looks looks)))
 
-  pub look_takes : (marked : Bool) (r : LookAnswer) (k k1 : ℕ) → RanToEnd (answer_of_look r)
+  pub look_takes : (marked u : Bool) (r : LookAnswer) (k k1 : ℕ) → RanToEnd (answer_of_look u r)
       → IsLooked r program.image tx args d k k1
       → (taken : ℕ) × TakesBy marked program (heap_in (sizes_of program) d.cache) tx args taken
       × (k1 ≡ k + taken)
-  look_takes marked r k k1 ran_to is =
-      let counts = look_counts (policy_of marked) r k k1 ran_to is in (
+  look_takes marked u r k k1 ran_to is =
+      let counts = look_counts u (policy_of marked) r k k1 ran_to is in (
         run_steps (policy_of marked) runs.end runs.effects,
         (runs.end, runs.effects, counts.0, refl),
         counts.1,

@@ -48,7 +48,7 @@ use Rattle.cnvm_session.specs.declared.answer.Answer.TheVariants as answer
 use Rattle.cnvm_session.specs.declared.program.Program.{Program}
 use Rattle.cnvm_session.specs.Outcomes.{answer_of_call}
 use Rattle.cnvm_session.specs.Outcomes as commanded_by
-use Rattle.cnvm_session.specs.Marks.{rolls_back_of, looks_of, policy_of}
+use Rattle.cnvm_session.specs.Marks.{rolls_back_of, looks_of, policy_of, unsigned_of}
 use Rattle.clobber_log.specs.Restore.{restore_events}
 use Rattle.cut_law.proofs.Backs.{misses_restore}
 use Rattle.cnvm_session.specs.Commands as commanded
@@ -207,15 +207,16 @@ module _ (program : Program) (super : Words) (agrees : Agrees program)
           (run_misses marked) h.between (all_cache (due_seal tx args c) d h.between h.done) h.went
 
   -- the phase, from the call's answer
-  off_of : (r : CallAnswer) (at : Phase) → answer.Stopped at ≡ answer_of_call r → r ≡ called.Off at
-  off_of (called.Done v l) at e = absurd cc
-  off_of (called.Trap kind) at e = absurd cc
-  off_of (called.Aborted kind) at e = absurd cc
-  off_of (called.Off p) at e = let same : at ≡ p = cc in ap called.Off (sym same)
-  off_of called.Failed at e = absurd cc
-  off_of (called.Unusable kind) at e = absurd cc
-  off_of called.Numbers at e = absurd cc
-  off_of called.NoMemory at e = absurd cc
+  off_of : (u : Bool) (r : CallAnswer) (at : Phase) → answer.Stopped at ≡ answer_of_call u r
+      → r ≡ called.Off at
+  off_of u (called.Done v l) at e = absurd cc
+  off_of u (called.Trap kind) at e = absurd cc
+  off_of u (called.Aborted kind) at e = absurd cc
+  off_of u (called.Off p) at e = let same : at ≡ p = cc in ap called.Off (sym same)
+  off_of u called.Failed at e = absurd cc
+  off_of u (called.Unusable kind) at e = absurd cc
+  off_of u called.Numbers at e = absurd cc
+  off_of u called.NoMemory at e = absurd cc
 
   module _ (tx : ℕ) (args : List ℤ) (at : Phase) (n : Mode) (k k1 : ℕ)
       (takes : tx_parameters program.image tx ≡ Some (length args)) (words : AreWords args) where
@@ -227,36 +228,37 @@ module _ (program : Program) (super : Words) (agrees : Agrees program)
         let good = resting.before.good in
         numbers_small (view d.cache) s.done good.attempt good.done good.attempt_is numbers
 
-    by_numbers : (numbers : Bool) → Numbers numbers → (marked : Bool) →
-        commanded_by.RunsBy marked program.image tx args d (answer.Stopped at) n b k k1
+    by_numbers : (numbers : Bool) → Numbers numbers → (marked u : Bool) →
+        commanded_by.RunsBy marked u program.image tx args d (answer.Stopped at) n b k k1
         → Images (HasPhase at s) b.cache
-    by_numbers true numbers marked is =
+    by_numbers true numbers marked u is =
         let ran = is.called.ready resting.on
         (stands_ready (view d.cache) resting.before.good.mark numbers) in
         let off : Called (called.Off at) (policy_of marked) program.image tx args d b k k1 =
         subst (λ (x : CallAnswer). Called x (policy_of marked) program.image tx args d b k k1)
-        (off_of is.tx_answer at is.answer) ran in
+        (off_of u is.tx_answer at is.answer) ran in
         went tx args takes words (small_of numbers) marked at off.1
-    by_numbers false numbers marked is =
+    by_numbers false numbers marked u is =
         let same = (is.called.numbers resting.on
         (stands_numbers (view d.cache) resting.before.good.mark numbers)).0 in
         let clash : called.Numbers ≡ called.Off at =
-        sym same ∙ off_of is.tx_answer at is.answer in
+        sym same ∙ off_of u is.tx_answer at is.answer in
         absurd cc
 
-    by_looks : (looks marked : Bool) →
-        commanded_by.RunsAs looks marked program.image tx args d (answer.Stopped at) n b k k1
+    by_looks : (looks marked u : Bool) →
+        commanded_by.RunsAs looks marked u program.image tx args d (answer.Stopped at) n b k k1
         → Images (HasPhase at s) b.cache
-    by_looks true marked is =
+    by_looks true marked u is =
         absurd (look_is_on is.seen program.image tx args d k k1 resting.on is.looked
-        (stopped_look is.seen at is.answer))
-    by_looks false marked is =
-        by_numbers (is_number (view d.cache DONE) && is_number (view d.cache ATTEMPT)) refl marked
+        (stopped_look u is.seen at is.answer))
+    by_looks false marked u is =
+        by_numbers (is_number (view d.cache DONE) && is_number (view d.cache ATTEMPT)) refl marked u
         is
 
     by_call : commanded_by.Runs program tx args d (answer.Stopped at) n b k k1
         → Images (HasPhase at s) b.cache
-    by_call is = by_looks (looks_of program tx) (rolls_back_of program tx) is
+    by_call is =
+        by_looks (looks_of program tx) (rolls_back_of program tx) (unsigned_of program tx) is
 
   module _ (args : List ℤ) (words : AreWords args) (at : Phase) (n : Mode) (k k1 : ℕ) where
     by_count : (tx count : ℕ) (same : Bool) → (count == length args) ≡ same

@@ -33,7 +33,7 @@ use Rattle.cnvm_session.specs.declared.mode.Mode.TheVariants as mode
 use Rattle.cnvm_session.specs.declared.answer.Answer.{Answer}
 use Rattle.cnvm_session.specs.declared.answer.Answer.TheVariants as answer
 use Rattle.cnvm_session.specs.declared.program.Program.{Program}
-use Rattle.cnvm_session.specs.Marks.{rolls_back_of, policy_of}
+use Rattle.cnvm_session.specs.Marks.{rolls_back_of, policy_of, owes_unsigned}
 use Rattle.cnvm_session.specs.Commands as commanded
 use Rattle.cnvm_session.specs.Commands.{fallen}
 use Rattle.cnvm_session.specs.Opening.{opening_events}
@@ -76,9 +76,10 @@ module _ (program : Program) (super : Words) (agrees : Agrees program)
     Sealed = Images (HasSeal s) b.cache
 
     recovers_by : (marked : Bool) → one DONE ≡ pos s.done → tx_in e ≡ owed.tx
-        → rolls_back_of program owed.tx ≡ marked → RecoversBy marked program.image e a n b k k1
+        → rolls_back_of program owed.tx ≡ marked
+        → RecoversBy marked (owes_unsigned program e) program.image e a n b k k1
     recovers_by marked done names marks =
-        subst (λ (x : Bool). RecoversBy x program.image e a n b k k1)
+        subst (λ (x : Bool). RecoversBy x (owes_unsigned program e) program.image e a n b k k1)
         (owing_as program e owed.tx marked (is_owed one s.done done seal) names marks) is
 
     module _ (marked : Bool) (marks : rolls_back_of program owed.tx ≡ marked)

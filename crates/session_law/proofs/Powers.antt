@@ -30,6 +30,7 @@ use Rattle.cnvm_session.specs.declared.answer.Answer.{Answer}
 use Rattle.cnvm_session.specs.declared.answer.Answer.TheVariants as answer
 use Rattle.cnvm_session.specs.declared.program.Program.{Program}
 use Rattle.cnvm_session.specs.Marks.{rolls_back_of, policy_of, owes_marked}
+use Rattle.cnvm_session.specs.Marks.{unsigned_of, owes_unsigned}
 use Rattle.cnvm_session.specs.Outcomes.{RecoversBy}
 use Rattle.cnvm_session.specs.Outcomes as outcomes
 use Rattle.cnvm_session.specs.Commands as commanded
@@ -76,20 +77,21 @@ powers_of program s found t image (answer.RefusedUnusable kind) mark finds is =
 powers_of program s found t image (answer.RefusedPick line) mark finds is =
     absurd (no_pick program found.standing found t image line is)
 powers_of program s found t image answer.Silent mark finds is = (mark, (found, finds, is))
-powers_of program s found t image (answer.Done v l) mark finds is = (mark, (found, finds, is))
+powers_of program s found t image (answer.Done v u l) mark finds is = (mark, (found, finds, is))
 powers_of program s found t image (answer.Trap kind) mark finds is = (mark, (found, finds, is))
 powers_of program s found t image (answer.Aborted kind) mark finds is = (mark, (found, finds, is))
 powers_of program s found t image (answer.Stopped p) mark finds is = (mark, (found, finds, is))
 powers_of program s found t image answer.DeviceFault mark finds is = (mark, (found, finds, is))
 powers_of program s found t image answer.RecoveredNone mark finds is = (mark, (found, finds, is))
-powers_of program s found t image (answer.RecoveredRedone v l) mark finds is =
+powers_of program s found t image (answer.RecoveredRedone v u l) mark finds is =
     (mark, (found, finds, is))
 powers_of program s found t image (answer.RecoveredTrap kind) mark finds is =
     (mark, (found, finds, is))
 powers_of program s found t image (answer.RecoveredAborted kind) mark finds is =
     (mark, (found, finds, is))
 powers_of program s found t image (answer.Shown text) mark finds is = (mark, (found, finds, is))
-powers_of program s found t image (answer.ShownDead trap text) mark finds is = (mark, (found, finds, is))
+powers_of program s found t image (answer.ShownDead trap text) mark finds is =
+    (mark, (found, finds, is))
 powers_of program s found t image (answer.Last f v) mark finds is = (mark, (found, finds, is))
 powers_of program s found t image answer.NoMemory mark finds is = (mark, (found, finds, is))
 powers_of program s found t image answer.RefusedDown mark finds is = (mark, (found, finds, is))
@@ -115,6 +117,12 @@ owing_as program e tx marked sealed names mark =
     ap (λ (x : Bool). x && rolls_back_of program (tx_in e)) sealed
     ∙ ap (rolls_back_of program) names ∙ mark
 
+-- and the type of that transaction
+pub owing_type : (program : Program) (e : Device) (tx : ℕ) → is_sealed (view e.cache) ≡ true
+    → tx_in e ≡ tx → owes_unsigned program e ≡ unsigned_of program tx
+owing_type program e tx sealed names =
+    ap (λ (x : Bool). x && unsigned_of program (tx_in e)) sealed ∙ ap (unsigned_of program) names
+
 module _ (program : Program) (super : Words) (agrees : Agrees program)
     (e : Device) (s : SourceState) (on : e.on ≡ true) (rest : IsAtRest e.cache)
     (a : Answer) (n : Mode) (b : Device) (k k1 : ℕ)
@@ -128,22 +136,23 @@ module _ (program : Program) (super : Words) (agrees : Agrees program)
   abbrev Answered : Type 0
   Answered = (t : SourceState) × Powers program s one a t × Holds program super n b t
 
-  -- the recovery, by whether the image owes a marked transaction
-  by_owed : (marked : Bool) → owes_marked program e ≡ marked
-      → RecoversBy marked program.image e a n b k k1
-  by_owed marked owes =
-      subst (λ (x : Bool). RecoversBy x program.image e a n b k k1) owes is
+  -- the recovery, by whether the image owes a marked transaction, and by its type
+  by_owed : (marked typed : Bool) → owes_marked program e ≡ marked
+      → owes_unsigned program e ≡ typed → RecoversBy marked typed program.image e a n b k k1
+  by_owed marked typed owes kind =
+      subst (λ (x : Bool). RecoversBy x typed program.image e a n b k k1) owes
+      (subst (λ (x : Bool). RecoversBy (owes_marked program e) x program.image e a n b k k1) kind
+      is)
 
   -- nothing is owed in the image
   rested : (found : SourceState) (h : Words) → HoldsPool program h found
       → IsBefore pool found.done h found.last one → found.standing ≡ Down None
       → FindsOwed s.standing program s one found → Answered
   rested found h holds before standing finds =
-      let un = by_owed false (not_owing program e
-      (is_unsealed one found.done before.good.done before.good.unsealed)) in
-      let done = rest_recovers program super e found h on rest holds before EndPool un.tx_answer b
-      k k1
-      un.recovered in (
+      let un = by_owed false (owes_unsigned program e) (not_owing program e
+      (is_unsealed one found.done before.good.done before.good.unsealed)) refl in
+      let done = rest_recovers program super e found h on rest holds before EndPool
+      (owes_unsigned program e) un.tx_answer b k k1 un.recovered in (
         done.0,
         powers_of program s found done.0 one a before.good.mark finds
             (subst (λ (st : Standing). Recovers st program found one a done.0) (sym standing)
@@ -168,7 +177,8 @@ module _ (program : Program) (super : Words) (agrees : Agrees program)
   from_mark : (kind : TrapKind) → IsMarked s.standing program s kind →
       Lost pool.sizes (trap_number kind) one → Answered
   from_mark kind marks lost =
-      let found = marked_recovers program e b kind (owes_marked program e) a n k k1 on lost.0
+      let found = marked_recovers program e b kind (owes_marked program e)
+      (owes_unsigned program e) a n k k1 on lost.0
       (is_marked (one 19) (trap_number kind) lost.0 lost.1) is in
       let holds : Holds program super (mode.Unusable kind) b (standing_as (Unusable kind) s) = (
         refl,
@@ -282,8 +292,10 @@ module _ (program : Program) (super : Words) (agrees : Agrees program)
       at_cut (inl before) = at_before h owes.holds before
       at_cut (inr (inl sealed)) =
           let names : tx_in e ≡ owed.tx = ap tx_number (sealed.call_is 0 (omega arith)) in
-          let its = by_owed marked (owing_as program e owed.tx marked
-          (is_owed one s.done sealed.done sealed.sealed) names mark) in
+          let seal = is_owed one s.done sealed.done sealed.sealed in
+          let its = by_owed marked (unsigned_of program owed.tx)
+          (owing_as program e owed.tx marked seal names mark)
+          (owing_type program e owed.tx seal names) in
           let done = redo_recovers marked program super agrees e s owed h owes.end es on rest
           owes.holds owes.takes owes.words owes.ran mark sealed its.tx_answer b k k1
           its.recovered in (

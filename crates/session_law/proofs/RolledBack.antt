@@ -34,7 +34,8 @@ use Rattle.cnvm_session.specs.declared.answer.Answer.TheVariants as answer
 use Rattle.cnvm_session.specs.declared.program.Program.{Program}
 use Rattle.cnvm_session.specs.Commands as commanded
 use Rattle.cnvm_session.specs.Commands.{call_number, tx_parameters, fallen}
-use Rattle.cnvm_session.specs.Marks.{rolls_back_of, looks_of, policy_of}
+use Rattle.cnvm_session.specs.Marks.{rolls_back_of, looks_of, policy_of, unsigned_of}
+use Rattle.cnvm_session.specs.Marks.{owes_unsigned}
 use Rattle.cnvm_session.specs.Outcomes.{answer_of_call, answer_of_recovery, RecoversBy}
 use Rattle.cnvm_session.specs.Outcomes as outcomes
 use Rattle.cnvm_session.specs.Pool.{sizes_of}
@@ -51,31 +52,31 @@ use Rattle.session_law.proofs.Recoveries.{redo_restores}
 use Rattle.session_law.proofs.Powers.{not_owing, owing_as}
 
 -- the answer of a call that was rolled back
-aborted_call : (r : CallAnswer) (kind : TrapKind) → answer.Aborted kind ≡ answer_of_call r
-    → r ≡ called.Aborted kind
-aborted_call (called.Done v l) kind e = absurd cc
-aborted_call (called.Trap trap) kind e = absurd cc
-aborted_call (called.Aborted trap) kind e =
+aborted_call : (u : Bool) (r : CallAnswer) (kind : TrapKind)
+    → answer.Aborted kind ≡ answer_of_call u r → r ≡ called.Aborted kind
+aborted_call u (called.Done v l) kind e = absurd cc
+aborted_call u (called.Trap trap) kind e = absurd cc
+aborted_call u (called.Aborted trap) kind e =
     let same : kind ≡ trap = cc in ap called.Aborted (sym same)
-aborted_call (called.Off p) kind e = absurd cc
-aborted_call called.Failed kind e = absurd cc
-aborted_call (called.Unusable trap) kind e = absurd cc
-aborted_call called.Numbers kind e = absurd cc
-aborted_call called.NoMemory kind e = absurd cc
+aborted_call u (called.Off p) kind e = absurd cc
+aborted_call u called.Failed kind e = absurd cc
+aborted_call u (called.Unusable trap) kind e = absurd cc
+aborted_call u called.Numbers kind e = absurd cc
+aborted_call u called.NoMemory kind e = absurd cc
 
 -- and of a recovery
-aborted_recovery : (r : RecoverAnswer) (kind : TrapKind)
-    → answer.RecoveredAborted kind ≡ answer_of_recovery r → r ≡ recovered.Aborted kind
-aborted_recovery recovered.Clean kind e = absurd cc
-aborted_recovery (recovered.Redone v l) kind e = absurd cc
-aborted_recovery (recovered.Trap trap) kind e = absurd cc
-aborted_recovery (recovered.Aborted trap) kind e =
+aborted_recovery : (u : Bool) (r : RecoverAnswer) (kind : TrapKind)
+    → answer.RecoveredAborted kind ≡ answer_of_recovery u r → r ≡ recovered.Aborted kind
+aborted_recovery u recovered.Clean kind e = absurd cc
+aborted_recovery u (recovered.Redone v l) kind e = absurd cc
+aborted_recovery u (recovered.Trap trap) kind e = absurd cc
+aborted_recovery u (recovered.Aborted trap) kind e =
     let same : kind ≡ trap = cc in ap recovered.Aborted (sym same)
-aborted_recovery (recovered.Unusable trap) kind e = absurd cc
-aborted_recovery recovered.Numbers kind e = absurd cc
-aborted_recovery (recovered.Off p) kind e = absurd cc
-aborted_recovery recovered.Failed kind e = absurd cc
-aborted_recovery recovered.NoMemory kind e = absurd cc
+aborted_recovery u (recovered.Unusable trap) kind e = absurd cc
+aborted_recovery u recovered.Numbers kind e = absurd cc
+aborted_recovery u (recovered.Off p) kind e = absurd cc
+aborted_recovery u recovered.Failed kind e = absurd cc
+aborted_recovery u recovered.NoMemory kind e = absurd cc
 
 module _ (program : Program) (super : Words) (agrees : Agrees program)
     (d b : Device) (s : SourceState) (resting : IsResting program super d s)
@@ -83,14 +84,14 @@ module _ (program : Program) (super : Words) (agrees : Agrees program)
   abbrev Restored : Type 0
   Restored = IsRolledBack program (heap_in (sizes_of program) d.cache) s.last b
 
-  by_mark : (tx : ℕ) → tx_parameters program.image tx ≡ Some (length args) → (marked : Bool) →
-      rolls_back_of program tx ≡ marked →
-      outcomes.RunsBy marked program.image tx args d (answer.Aborted kind) n b k k1 → Restored
-  by_mark tx takes marked mark is =
+  by_mark : (tx : ℕ) → tx_parameters program.image tx ≡ Some (length args) → (marked u : Bool)
+      → rolls_back_of program tx ≡ marked →
+      outcomes.RunsBy marked u program.image tx args d (answer.Aborted kind) n b k k1 → Restored
+  by_mark tx takes marked u mark is =
       go (is_number (view d.cache DONE) && is_number (view d.cache ATTEMPT)) refl
     where
       rolled : is.tx_answer ≡ called.Aborted kind
-      rolled = aborted_call is.tx_answer kind is.answer
+      rolled = aborted_call u is.tx_answer kind is.answer
 
       go : (numbers : Bool) → (is_number (view d.cache DONE) && is_number (view d.cache ATTEMPT))
           ≡ numbers → Restored
@@ -109,19 +110,20 @@ module _ (program : Program) (super : Words) (agrees : Agrees program)
           absurd cc
 
   by_marks : (tx : ℕ) → tx_parameters program.image tx ≡ Some (length args) →
-      (looks marked : Bool) → rolls_back_of program tx ≡ marked →
-      outcomes.RunsAs looks marked program.image tx args d (answer.Aborted kind) n b k k1 → Restored
-  by_marks tx takes true marked mark is =
+      (looks marked u : Bool) → rolls_back_of program tx ≡ marked →
+      outcomes.RunsAs looks marked u program.image tx args d (answer.Aborted kind) n b k k1
+      → Restored
+  by_marks tx takes true marked u mark is =
       subst (IsRolledBack program (heap_in (sizes_of program) d.cache) s.last) (sym is.same)
       (record { heap = λ w less. refl; last_is = resting.before.last_is })
-  by_marks tx takes false marked mark is = by_mark tx takes marked mark is
+  by_marks tx takes false marked u mark is = by_mark tx takes marked u mark is
 
   by_count : (tx count : ℕ) (same : Bool) → (count == length args) ≡ same
       → tx_parameters program.image tx ≡ Some count
       → commanded.CallsWith same program tx args d (answer.Aborted kind) n b k k1 → Restored
   by_count tx count true same takes h =
       by_marks tx (takes ∙ ap (λ (i : ℕ). Some i) (eqb-true count (length args) same))
-      (looks_of program tx) (rolls_back_of program tx) refl h
+      (looks_of program tx) (rolls_back_of program tx) (unsigned_of program tx) refl h
   by_count tx count false same takes h = let e = h.0 in absurd cc
 
   by_parameters : (tx : ℕ) (count : Option ℕ) → tx_parameters program.image tx ≡ count
@@ -203,8 +205,12 @@ module _ (program : Program) (super : Words) (agrees : Agrees program) (choice :
   abbrev Undone : Type 0
   Undone = IsRolledBack program owes.heap s.last b
 
+  abbrev owes_type : Bool
+  owes_type = owes_unsigned program e
+
   abbrev Recovers : Bool → Type 0
-  Recovers marked = RecoversBy marked program.image e (answer.RecoveredAborted kind) n b k k1
+  Recovers marked =
+      RecoversBy marked owes_type program.image e (answer.RecoveredAborted kind) n b k k1
 
   abbrev Recovered : Type 0
   Recovered = outcomes.Recovers program e (answer.RecoveredAborted kind) n b k k1
@@ -215,7 +221,7 @@ module _ (program : Program) (super : Words) (agrees : Agrees program) (choice :
       let un : Recovers false = subst Recovers
       (not_owing program e (is_unsealed one done good.done good.unsealed)) is in
       not_good program e b un.tx_answer k k1 refl kind
-      (aborted_recovery un.tx_answer kind un.answer) EndPool pool done h good un.recovered
+      (aborted_recovery owes_type un.tx_answer kind un.answer) EndPool pool done h good un.recovered
 
   ended : (x : End)
       → IsEnd pool call owes.heap (heap_end owes.heap owes.effects) (result_of RollBack s.last x)
@@ -234,7 +240,7 @@ module _ (program : Program) (super : Words) (agrees : Agrees program) (choice :
       (is_owed one s.done sealed.done sealed.sealed) names mark) is in
       redo_restores true program super agrees e s owed owes.heap owes.end owes.effects refl
       (left_rest d.cache choice.rest choice.picks) owes.holds owes.takes owes.words owes.ran mark
-      sealed kind its.tx_answer b k k1 (aborted_recovery its.tx_answer kind its.answer)
+      sealed kind its.tx_answer b k k1 (aborted_recovery owes_type its.tx_answer kind its.answer)
       its.recovered
   at_cut (inr (inr seen)) is = ended owes.end seen is
 

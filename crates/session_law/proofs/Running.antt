@@ -121,10 +121,10 @@ module _ (program : Program) (owed : Pending) (s t : SourceState) (image : Words
               (subst (Recovered program owed s t image a) sealed.2 recovers)),
         )
 
-  value_finishes : (value : ℤ) (logged : ℕ) (marked : Bool) (found : SourceState)
-      → RedoesBy marked program owed found image (answer.RecoveredRedone value logged) t
+  value_finishes : (value : ℤ) (unsigned : Bool) (logged : ℕ) (marked : Bool) (found : SourceState)
+      → RedoesBy marked program owed found image (answer.RecoveredRedone value unsigned logged) t
       → IsConcluded marked program owed found Ready t
-  value_finishes value logged marked found is = (logged, Done is.0 value, is.1, is.2)
+  value_finishes value unsigned logged marked found is = (logged, Done is.0 value, is.1, is.2)
 
   abort_finishes : (kind : TrapKind) (marked : Bool) (found : SourceState)
       → RedoesBy marked program owed found image (answer.RecoveredAborted kind) t
@@ -136,16 +136,17 @@ module _ (program : Program) (owed : Pending) (s t : SourceState) (image : Words
   told_of answer.RecoveredNone completed answers e =
       none_told answers.1.0 (at_owed program owed s t image answers.1.0 standing answers.1.1)
       answers.1.2 e
-  told_of (answer.RecoveredRedone value logged) completed answers e =
-      redone_told (answer.RecoveredRedone value logged) (λ found no. no) refl
-      (λ found. value_finishes value logged (rolls_back_of program owed.tx) found) answers.1.0
+  told_of (answer.RecoveredRedone value unsigned logged) completed answers e =
+      redone_told (answer.RecoveredRedone value unsigned logged) (λ found no. no) refl
+      (λ found. value_finishes value unsigned logged (rolls_back_of program owed.tx) found)
+      answers.1.0
       (at_owed program owed s t image answers.1.0 standing answers.1.1) answers.1.2 e
   told_of (answer.RecoveredAborted kind) completed answers e =
       redone_told (answer.RecoveredAborted kind) (λ found no. no) refl
       (λ found. abort_finishes kind (rolls_back_of program owed.tx) found) answers.1.0
       (at_owed program owed s t image answers.1.0 standing answers.1.1) answers.1.2 e
   told_of answer.Silent completed answers e = absurd completed
-  told_of (answer.Done v l) completed answers e = absurd completed
+  told_of (answer.Done v u l) completed answers e = absurd completed
   told_of (answer.Trap k) completed answers e = absurd completed
   told_of (answer.Aborted k) completed answers e = absurd completed
   told_of (answer.Stopped p) completed answers e = absurd completed

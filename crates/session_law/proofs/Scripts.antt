@@ -1,23 +1,25 @@
 -- The arguments of a script's calls are words.
-use Rattle.std.proofs.Common.{◌≡◌, ℕ, zero, suc, ◌+◌, ◌^◌, ◌<◌, ◌≤◌, Bool, true, false}
+use Rattle.std.proofs.Common.{◌≡◌, ℕ, zero, suc, ◌+◌, ◌-◌, ◌^◌, ◌<◌, ◌≤◌, Bool, true, false}
 use Rattle.std.proofs.Common.{if◌then◌else◌, ltb, leb, List, [], ◌∷◌, Option, Some, None, IfSome}
 use Rattle.std.proofs.Common.{option_map, Result, Ok, Err, ℤ, pos, neg_ℤ, refl, subst, arith}
 use Rattle.std.specs.Prelude.{bytes_eq, codes, drop, option_and_then}
+use Rattle.std.specs.Int.{w64, cast_signed}
 use Rattle.std.specs.List.{AllByRecursion}
 use Rattle.std.specs.Str.Parse.{starts_with_minus}
-use Rattle.std.proofs.lemmas.Bool.{ltb-true, leb-true}
+use Rattle.std.proofs.lemmas.Bool.{ltb-true, ltb-false, leb-true}
 use Rattle.std.proofs.lemmas.Int.{ints}
 use Rattle.nvm_base.specs.Wrap.{IsWord}
 use Rattle.cache_model.specs.declared.choice.Rest.{Rest}
 use Rattle.cache_model.specs.declared.choice.Rest.TheVariants.{Old, New}
 use Rattle.cache_model.specs.declared.choice.Pick.{Pick}
 use Rattle.cnvm_script.specs.declared.command.Command.{Command}
-use Rattle.cnvm_script.specs.declared.command.Command.TheVariants.{Call, Stop, Fault, Power, ShowDead}
-use Rattle.cnvm_script.specs.declared.command.Command.TheVariants.{Last}
+use Rattle.cnvm_script.specs.declared.command.Command.TheVariants.{Call, Stop, Fault, Power}
+use Rattle.cnvm_script.specs.declared.command.Command.TheVariants.{ShowDead, Last}
 use Rattle.cnvm_script.specs.Lines.{lines}
 use Rattle.cnvm_script.specs.Lines as line_of
 use Rattle.cnvm_script.specs.Name.{is_name}
-use Rattle.cnvm_script.specs.Number.{bounded_numeral, as_positive, as_negative, argument, pick}
+use Rattle.cnvm_script.specs.Number.{bounded_numeral, long_numeral, at_most, as_negative, argument}
+use Rattle.cnvm_script.specs.Number.{pick}
 use Rattle.cnvm_script.specs.Commands.{with_first, each, rising, call_command, event_of, choice_of}
 use Rattle.cnvm_script.specs.Commands.{power_of, if_dead, show_of, alone, command, is_remark}
 use Rattle.cnvm_script.specs.Commands.{meaning, line_meaning, joined_commands, commands_from}
@@ -31,13 +33,28 @@ either P false x y first second = second
 
 -- an argument
 
-positive_word : (n : ℕ) → IfSome (as_positive n) IsWord
-positive_word n = go (ltb n (2 ^ 63)) refl
+bits_word : (n : ℕ) → n < 2 ^ 64 → IsWord (cast_signed w64 n)
+bits_word n small = by (ltb n (2 ^ 63)) refl
   where
-    go : (b : Bool) → ltb n (2 ^ 63) ≡ b → IfSome (if b then Some (pos n) else None) IsWord
-    go true is = let less : n < 2 ^ 63 = ltb-true n (2 ^ 63) is in
-        (omega (arith, ints), omega (arith, ints))
+    by : (t : Bool) → ltb n (2 ^ 63) ≡ t → IsWord (cast_signed w64 n)
+    by true low = let less = ltb-true n (2 ^ 63) low in
+        rw low (omega (arith, ints), omega (arith, ints))
+    by false high = let more = ltb-false n (2 ^ 63) high in
+        rw high (omega (arith, ints), omega (arith, ints))
+
+limited_word : (n : ℕ) → IfSome (option_map (cast_signed w64) (at_most (2 ^ 64 - 1) n)) IsWord
+limited_word n = go (leb n (2 ^ 64 - 1)) refl
+  where
+    go : (b : Bool) → leb n (2 ^ 64 - 1) ≡ b
+        → IfSome (option_map (cast_signed w64) (if b then Some n else None)) IsWord
+    go true is = let most : n ≤ 2 ^ 64 - 1 = leb-true n (2 ^ 64 - 1) is in
+        bits_word n (omega (arith, most))
     go false is = tt
+
+plain_word : (o : Option ℕ)
+    → IfSome (option_map (cast_signed w64) (option_and_then (at_most (2 ^ 64 - 1)) o)) IsWord
+plain_word None = tt
+plain_word (Some n) = limited_word n
 
 minus_word : (n : ℕ) → n ≤ 2 ^ 63 → IsWord (neg_ℤ (pos n))
 minus_word zero less = (omega (arith, ints), omega (arith, ints))
@@ -58,10 +75,10 @@ then_word f (Some n) each_is = each_is n
 argument_word : (word : List ℕ) → IfSome (argument word) IsWord
 argument_word word =
     either IsWord (starts_with_minus word)
-    (option_and_then as_negative (bounded_numeral 19 (drop 1 word)))
-    (option_and_then as_positive (bounded_numeral 19 word))
-    (then_word as_negative (bounded_numeral 19 (drop 1 word)) negative_word)
-    (then_word as_positive (bounded_numeral 19 word) positive_word)
+    (option_and_then as_negative (long_numeral (drop 1 word)))
+    (option_map (cast_signed w64) (long_numeral word))
+    (then_word as_negative (long_numeral (drop 1 word)) negative_word)
+    (plain_word (bounded_numeral 20 word))
 
 first_words : (first : Option ℤ) (others : Option (List ℤ)) → IfSome first IsWord
     → IfSome others AreWords → IfSome (with_first first others) AreWords

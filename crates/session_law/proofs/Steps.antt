@@ -31,6 +31,7 @@ use Rattle.cnvm_session.specs.declared.answer.Answer.{Answer}
 use Rattle.cnvm_session.specs.declared.answer.Answer.TheVariants as answer
 use Rattle.cnvm_session.specs.declared.program.Program.{Program}
 use Rattle.cnvm_session.specs.Marks.{rolls_back_of, policy_of, owes_marked}
+use Rattle.cnvm_session.specs.Marks.{owes_unsigned}
 use Rattle.cnvm_session.specs.Outcomes.{answer_of_recovery, RecoversBy}
 use Rattle.cnvm_session.specs.Outcomes as outcomes
 use Rattle.cnvm_session.specs.Commands as commanded
@@ -46,16 +47,16 @@ use Rattle.session_law.proofs.Recoveries.{marked_recovers, redo_counts}
 use Rattle.session_law.proofs.Powers.{not_owing, owing_as}
 
 -- a recovery of a pool where nothing is owed runs no transaction
-module _ (program : Program) (e b : Device) (r : RecoverAnswer) (k k1 : ℕ)
-    (redone : IsRedone (answer_of_recovery r)) where
+module _ (program : Program) (e b : Device) (u : Bool) (r : RecoverAnswer) (k k1 : ℕ)
+    (redone : IsRedone (answer_of_recovery u r)) where
   not_numbers : r ≡ recovered.Numbers → ⊥
-  not_numbers is = subst (λ (x : RecoverAnswer). IsRedone (answer_of_recovery x)) is redone
+  not_numbers is = subst (λ (x : RecoverAnswer). IsRedone (answer_of_recovery u x)) is redone
 
   not_good : (p : Policy) (pool : Pool) (d : ℕ) (h : Words) → e.on ≡ true
       → Good pool d h (view e.cache) → IsRecovered r p program.image e b k k1 → ⊥
   not_good p pool d h on good is = go (numbers_out program.image e) refl
     where
-      clean : (x : RecoverAnswer) → IsRedone (answer_of_recovery x)
+      clean : (x : RecoverAnswer) → IsRedone (answer_of_recovery u x)
           → Cleaned x e (due_clean (sizes_of program) (count_in (sizes_of program) (view e.cache))
           e.cache) b → ⊥
       clean recovered.Clean some h = some
@@ -98,21 +99,24 @@ module _ (marked : Bool) (program : Program) (super : Words) (agrees : Agrees pr
     abbrev Taken : Type 0
     Taken = k1 ≡ k + (count_in (sizes_of program) (view e.cache) + run_steps p owes.end es)
 
+    abbrev typed : Bool
+    typed = owes_unsigned program e
+
     abbrev Recovered : Answer → Mode → Type 0
     Recovered a n = outcomes.Recovers program e a n b k k1
 
     recovers_by : (m : Bool) (a : Answer) (n : Mode) → owes_marked program e ≡ m
-        → Recovered a n → RecoversBy m program.image e a n b k k1
+        → Recovered a n → RecoversBy m typed program.image e a n b k k1
     recovers_by m a n owing is =
-        subst (λ (x : Bool). RecoversBy x program.image e a n b k k1) owing is
+        subst (λ (x : Bool). RecoversBy x typed program.image e a n b k k1) owing is
 
     never_good : (a : Answer) (n : Mode) (done : ℕ) (g : Words) → IsRedone a
         → Good pool done g (view e.cache) → Recovered a n → ⊥
     never_good a n done g redone good is =
         let un = recovers_by false a n (not_owing program e
         (is_unsealed (view e.cache) done good.done good.unsealed)) is in
-        not_good program e b un.tx_answer k k1 (subst IsRedone un.answer redone) EndPool pool done g
-        refl good un.recovered
+        not_good program e b typed un.tx_answer k k1 (subst IsRedone un.answer redone) EndPool pool
+        done g refl good un.recovered
 
     trapped : (m : Bool) (kind : TrapKind) (a : Answer) (n : Mode) → IsRedone a
         → IsEnd pool call h (heap_end h es) (result_of (policy_of m) s.last (Trapped kind))
@@ -120,7 +124,8 @@ module _ (marked : Bool) (program : Program) (super : Words) (agrees : Agrees pr
     trapped true kind a n redone seen is =
         absurd (never_good a n (suc s.done) h redone seen.good is)
     trapped false kind a n redone lost is =
-        let refused = marked_recovers program e b kind (owes_marked program e) a n k k1 refl lost.0
+        let refused = marked_recovers program e b kind (owes_marked program e) typed a n k k1 refl
+        lost.0
         (is_marked (view e.cache MARK) (trap_number kind) lost.0 lost.1) is in
         absurd (subst IsRedone refused.0 redone)
 
@@ -142,7 +147,7 @@ module _ (marked : Bool) (program : Program) (super : Words) (agrees : Agrees pr
         (is_owed (view e.cache) s.done sealed.done sealed.sealed) names mark) is in
         redo_counts marked program super agrees e s owed h owes.end es refl
         (left_rest d.cache choice.rest choice.picks) owes.holds owes.takes owes.words owes.ran
-        mark sealed its.tx_answer b k k1 (subst IsRedone its.answer redone) its.recovered
+        mark sealed typed its.tx_answer b k k1 (subst IsRedone its.answer redone) its.recovered
     at_cut a n redone (inr (inr seen)) is = ended owes.end a n redone seen is
 
     by_answer : (a : Answer) (n : Mode) → IsRedone a → Recovered a n → Taken

@@ -22,13 +22,13 @@ use Rattle.session_law.proofs.Looking.{looked_state}
 
 none_called : (call : List Pending) (a : Answer) → IsRefusal a → called_by call a ≡ []
 none_called call answer.Silent is = absurd is
-none_called call (answer.Done value logged) is = absurd is
+none_called call (answer.Done value unsigned logged) is = absurd is
 none_called call (answer.Trap kind) is = absurd is
 none_called call (answer.Aborted kind) is = absurd is
 none_called call (answer.Stopped p) is = absurd is
 none_called call answer.DeviceFault is = absurd is
 none_called call answer.RecoveredNone is = absurd is
-none_called call (answer.RecoveredRedone value logged) is = absurd is
+none_called call (answer.RecoveredRedone value unsigned logged) is = absurd is
 none_called call (answer.RecoveredTrap kind) is = absurd is
 none_called call (answer.RecoveredAborted kind) is = absurd is
 none_called call (answer.Shown text) is = absurd is
@@ -46,13 +46,13 @@ module _ (program : Program) (s t : SourceState) (image : Words) where
   by_same : (tx : ℕ) (args : List ℤ) (marked : Bool) (a : Answer) → IsRefusal a →
       RunsBy marked program s image tx args a t → t ≡ s
   by_same tx args marked answer.Silent refused is = absurd refused
-  by_same tx args marked (answer.Done value logged) refused is = absurd refused
+  by_same tx args marked (answer.Done value unsigned logged) refused is = absurd refused
   by_same tx args marked (answer.Trap kind) refused is = absurd refused
   by_same tx args marked (answer.Aborted kind) refused is = absurd refused
   by_same tx args marked (answer.Stopped p) refused is = absurd refused
   by_same tx args marked answer.DeviceFault refused is = absurd refused
   by_same tx args marked answer.RecoveredNone refused is = absurd refused
-  by_same tx args marked (answer.RecoveredRedone value logged) refused is = absurd refused
+  by_same tx args marked (answer.RecoveredRedone value unsigned logged) refused is = absurd refused
   by_same tx args marked (answer.RecoveredTrap kind) refused is = absurd refused
   by_same tx args marked (answer.RecoveredAborted kind) refused is = absurd refused
   by_same tx args marked (answer.Shown text) refused is = absurd refused
@@ -98,13 +98,13 @@ module _ (program : Program) (s t : SourceState) (image : Words) where
 
   tells_same : (a : Answer) → IsRefusal a → Tells program s a t → t ≡ s
   tells_same answer.Silent refused is = absurd refused
-  tells_same (answer.Done value logged) refused is = absurd refused
+  tells_same (answer.Done value unsigned logged) refused is = absurd refused
   tells_same (answer.Trap kind) refused is = absurd refused
   tells_same (answer.Aborted kind) refused is = absurd refused
   tells_same (answer.Stopped p) refused is = absurd refused
   tells_same answer.DeviceFault refused is = absurd refused
   tells_same answer.RecoveredNone refused is = absurd refused
-  tells_same (answer.RecoveredRedone value logged) refused is = absurd refused
+  tells_same (answer.RecoveredRedone value unsigned logged) refused is = absurd refused
   tells_same (answer.RecoveredTrap kind) refused is = absurd refused
   tells_same (answer.RecoveredAborted kind) refused is = absurd refused
   tells_same (answer.Shown text) refused is = absurd refused
@@ -137,13 +137,13 @@ module _ (program : Program) (s t : SourceState) (image : Words) where
   picks_same : (a : Answer) → IsBadPick a → Powers program s image a t →
       (t ≡ s) × (recovered_by s image a ≡ [])
   picks_same answer.Silent refused is = absurd refused
-  picks_same (answer.Done value logged) refused is = absurd refused
+  picks_same (answer.Done value unsigned logged) refused is = absurd refused
   picks_same (answer.Trap kind) refused is = absurd refused
   picks_same (answer.Aborted kind) refused is = absurd refused
   picks_same (answer.Stopped p) refused is = absurd refused
   picks_same answer.DeviceFault refused is = absurd refused
   picks_same answer.RecoveredNone refused is = absurd refused
-  picks_same (answer.RecoveredRedone value logged) refused is = absurd refused
+  picks_same (answer.RecoveredRedone value unsigned logged) refused is = absurd refused
   picks_same (answer.RecoveredTrap kind) refused is = absurd refused
   picks_same (answer.RecoveredAborted kind) refused is = absurd refused
   picks_same (answer.Shown text) refused is = absurd refused

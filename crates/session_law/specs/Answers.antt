@@ -22,7 +22,7 @@ use Rattle.cnvm_session.specs.declared.answer.Answer.{Answer}
 use Rattle.cnvm_session.specs.declared.answer.Answer.TheVariants as answer
 use Rattle.cnvm_session.specs.declared.program.Program.{Program}
 use Rattle.cnvm_session.specs.Commands.{call_number}
-use Rattle.cnvm_session.specs.Marks.{rolls_back_of, looks_of}
+use Rattle.cnvm_session.specs.Marks.{rolls_back_of, looks_of, unsigned_of}
 use Rattle.cnvm_session.specs.Pool.{sizes_of}
 use Rattle.session_law.specs.Source.{source_parameters, means, ComesBy, pool_of_image}
 use Rattle.session_law.specs.State.{Pending, Standing, Ready, Down, Unusable, SourceState}
@@ -33,12 +33,12 @@ abbrev pub Refused : Answer → SourceState → Answer → SourceState → Type 
 Refused why s a t = (a ≡ why) × (t ≡ s)
 
 -- The transaction is done: it comes to this value and to the next pool, with this number of logged
--- stores.
+-- stores; and the answer tells exactly whether it returns `uint64_t`.
 abbrev pub IsDoneWith : (marked : Bool) → Program → SourceState → (tx : ℕ) → List ℤ → (value : ℤ)
-    → (logged : ℕ) → Standing → SourceState → Type 0
-IsDoneWith marked program s tx args value logged standing t =
+    → (unsigned : Bool) → (logged : ℕ) → Standing → SourceState → Type 0
+IsDoneWith marked program s tx args value unsigned logged standing t =
     (pool : PoolMap) × ComesBy marked program s.pool tx args logged (Done pool value)
-    × (t ≡ done_with pool value standing s)
+    × (t ≡ done_with pool value standing s) × (unsigned ≡ unsigned_of program tx)
 
 -- the transaction comes to this trap
 abbrev pub TrapsAs : (marked : Bool) → Program → SourceState → (tx : ℕ) → List ℤ → TrapKind → Type 0
@@ -58,8 +58,8 @@ IsOutOfNumbers s image t =
 -- marked transaction is rolled back, and the pool stays usable.
 abbrev pub RunsBy : (marked : Bool) → Program → SourceState → Words → (tx : ℕ) → List ℤ → Answer
     → SourceState → Type 0
-RunsBy marked program s image tx args (answer.Done value logged) t =
-    IsDoneWith marked program s tx args value logged Ready t
+RunsBy marked program s image tx args (answer.Done value unsigned logged) t =
+    IsDoneWith marked program s tx args value unsigned logged Ready t
 RunsBy marked program s image tx args (answer.Trap kind) t =
     (marked ≡ false) × TrapsAs marked program s tx args kind × (t ≡ standing_as (Unusable kind) s)
 RunsBy marked program s image tx args (answer.Aborted kind) t =
@@ -73,8 +73,9 @@ RunsBy marked program s image tx args a t = ⊥
 -- The answer of a call that only looks: the transaction comes to this value, on a pool that stays
 -- as it is, or to this trap, and nothing changes. Without memory for it the session is down.
 abbrev pub Looks : Program → SourceState → (tx : ℕ) → List ℤ → Answer → SourceState → Type 0
-Looks program s tx args (answer.Done value logged) t =
+Looks program s tx args (answer.Done value unsigned logged) t =
     (means program s.pool tx args ≡ Done s.pool value) × (logged ≡ 0) × (t ≡ s)
+    × (unsigned ≡ unsigned_of program tx)
 Looks program s tx args (answer.Aborted kind) t =
     (means program s.pool tx args ≡ Trap kind) × (t ≡ s)
 Looks program s tx args answer.NoMemory t = t ≡ standing_as (Down None) s
@@ -197,8 +198,8 @@ Rests program s image a t = ⊥
 -- the answer of a recovery where a transaction is owed, by whether it is marked
 abbrev pub RedoesBy : (marked : Bool) → Program → Pending → SourceState → Words → Answer
     → SourceState → Type 0
-RedoesBy marked program owed s image (answer.RecoveredRedone value logged) t =
-    IsDoneWith marked program s owed.tx owed.args value logged Ready t
+RedoesBy marked program owed s image (answer.RecoveredRedone value unsigned logged) t =
+    IsDoneWith marked program s owed.tx owed.args value unsigned logged Ready t
 RedoesBy marked program owed s image (answer.RecoveredTrap kind) t =
     (marked ≡ false) × TrapsAs marked program s owed.tx owed.args kind
     × (t ≡ standing_as (Unusable kind) s)

@@ -40,7 +40,7 @@ UninterruptedLaw =
 -- memory for it.
 abbrev pub IsRecoveryEnd : Answer → Type 0
 IsRecoveryEnd answer.RecoveredNone = Unit {0}
-IsRecoveryEnd (answer.RecoveredRedone value logged) = Unit {0}
+IsRecoveryEnd (answer.RecoveredRedone value unsigned logged) = Unit {0}
 IsRecoveryEnd (answer.RecoveredTrap kind) = Unit {0}
 IsRecoveryEnd (answer.RecoveredAborted kind) = Unit {0}
 IsRecoveryEnd (answer.RefusedUnusable kind) = Unit {0}

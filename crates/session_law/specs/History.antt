@@ -46,7 +46,7 @@ calls_in program (c ∷ commands) = call_in program c ++ calls_in program comman
 
 -- a call that is answered with a value is done; an aborted one is finished too
 abbrev pub called_by : List Pending → Answer → List Pending
-called_by call (answer.Done value logged) = call
+called_by call (answer.Done value unsigned logged) = call
 called_by call (answer.Aborted kind) = call
 called_by call a = []
 
@@ -60,7 +60,7 @@ is_retired s image = int_eq (image SEAL) (pos (suc s.done))
 -- back, or if the image shows that it was finished before. A refused cut finishes nothing; nor does
 -- one that finds a mark.
 abbrev pub recovered_by : SourceState → Words → Answer → List Pending
-recovered_by s image (answer.RecoveredRedone value logged) = waiting_of s.standing
+recovered_by s image (answer.RecoveredRedone value unsigned logged) = waiting_of s.standing
 recovered_by s image (answer.RecoveredAborted kind) = waiting_of s.standing
 recovered_by s image (answer.RefusedPick line) = []
 recovered_by s image (answer.RefusedUnusable kind) = []

@@ -166,7 +166,7 @@ SessionLaw =
 -- the recovery came to its end, and the pool takes calls again
 abbrev pub IsCompleted : Answer → Type 0
 IsCompleted answer.RecoveredNone = Unit {0}
-IsCompleted (answer.RecoveredRedone value logged) = Unit {0}
+IsCompleted (answer.RecoveredRedone value unsigned logged) = Unit {0}
 IsCompleted (answer.RecoveredAborted kind) = Unit {0}
 IsCompleted a = ⊥
 
@@ -271,14 +271,14 @@ RollbackLaw =
 
 -- the owed transaction was run to its end
 abbrev pub IsRedone : Answer → Type 0
-IsRedone (answer.RecoveredRedone value logged) = Unit {0}
+IsRedone (answer.RecoveredRedone value unsigned logged) = Unit {0}
 IsRedone (answer.RecoveredTrap kind) = Unit {0}
 IsRedone (answer.RecoveredAborted kind) = Unit {0}
 IsRedone a = ⊥
 
 -- the called transaction was run to its end
 abbrev pub RanToEnd : Answer → Type 0
-RanToEnd (answer.Done value logged) = Unit {0}
+RanToEnd (answer.Done value unsigned logged) = Unit {0}
 RanToEnd (answer.Trap kind) = Unit {0}
 RanToEnd (answer.Aborted kind) = Unit {0}
 RanToEnd a = ⊥

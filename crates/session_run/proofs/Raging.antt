@@ -115,7 +115,9 @@ module _ (p : Program) (order : StormOrder) (s t : Tally) (m m1 : Mode) (d d1 d'
   storms_part (Err why) part = inr (t, m1, d1, k1, from_none, part)
 
   pub storms_fault : (r : Result Bool Unwritten) → r ≡ Err WriteFault
-      → OnErr r (TallyPart p order.plain t m1 d1 w k1 d' w' k') → StormsPart p order m d w k d' w' k'
+      → OnErr r (TallyPart p order.plain t m1 d1 w k1 d' w' k')
+      → StormsPart p order m d w k d' w' k'
   storms_fault r is part =
-      let fault = subst (λ (x : Result Bool Unwritten). OnErr x (TallyPart p order.plain t m1 d1 w k1
-      d' w' k')) is part in (t, m1, d1, k1, from_none, fault)
+      let fault = subst (λ (x : Result Bool Unwritten).
+      OnErr x (TallyPart p order.plain t m1 d1 w k1 d' w' k')) is part in
+      (t, m1, d1, k1, from_none, fault)

@@ -83,9 +83,14 @@ opened_ends p cs words status.NoMemory answer m d b d' w w1 w' k k1 k' opens lin
 opened_ends p cs words status.NoMemory answer m d b d' w w1 w' k k1 k' opens line (inr ran) =
     inr (inr (answer, m, b, w1, k1, opens, line, ran))
 opened_ends p cs words status.Usage answer m d b d' w w1 w' k k1 k' opens line never = absurd never
-opened_ends p cs words status.Program answer m d b d' w w1 w' k k1 k' opens line never = absurd never
-opened_ends p cs words status.Script answer m d b d' w w1 w' k k1 k' opens line never = absurd never
-opened_ends p cs words status.ReadFault answer m d b d' w w1 w' k k1 k' opens line never = absurd never
-opened_ends p cs words status.DeviceFault answer m d b d' w w1 w' k k1 k' opens line never = absurd never
+opened_ends p cs words status.Program answer m d b d' w w1 w' k k1 k' opens line never =
+    absurd never
+opened_ends p cs words status.Script answer m d b d' w w1 w' k k1 k' opens line never =
+    absurd never
+opened_ends p cs words status.ReadFault answer m d b d' w w1 w' k k1 k' opens line never =
+    absurd never
+opened_ends p cs words status.DeviceFault answer m d b d' w w1 w' k k1 k' opens line never =
+    absurd never
 opened_ends p cs words status.Image answer m d b d' w w1 w' k k1 k' opens line never = absurd never
-opened_ends p cs words status.PoolBusy answer m d b d' w w1 w' k k1 k' opens line never = absurd never
+opened_ends p cs words status.PoolBusy answer m d b d' w w1 w' k k1 k' opens line never =
+    absurd never

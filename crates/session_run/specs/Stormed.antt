@@ -51,9 +51,9 @@ command_counted command.Last t = t
 -- counts how a command was answered; an answer without a line doesn't count
 abbrev pub answer_counted : Answer → Tally → Tally
 answer_counted answer.Silent t = t
-answer_counted (answer.Done value logged) t = with_done t
+answer_counted (answer.Done value unsigned logged) t = with_done t
 answer_counted (answer.Stopped phase) t = with_stopped t
-answer_counted (answer.RecoveredRedone value logged) t = with_redone t
+answer_counted (answer.RecoveredRedone value unsigned logged) t = with_redone t
 answer_counted answer.RecoveredNone t = with_none t
 answer_counted (answer.Trap kind) t = with_trapped t
 answer_counted (answer.RecoveredTrap kind) t = with_trapped t
@@ -78,7 +78,7 @@ is_check _ = false
 
 -- such a call that gave another value than 1
 abbrev pub is_broken : Command → Answer → Bool
-is_broken c (answer.Done value logged) = not (int_eq value (pos 1)) && is_check c
+is_broken c (answer.Done value unsigned logged) = not (int_eq value (pos 1)) && is_check c
 is_broken c _ = false
 
 -- counts a broken check

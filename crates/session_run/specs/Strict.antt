@@ -8,13 +8,13 @@ use Rattle.session_run.specs.declared.status.Status.TheVariants as status
 
 abbrev pub is_refused : Answer → Bool
 is_refused answer.Silent = false
-is_refused (answer.Done value logged) = false
+is_refused (answer.Done value unsigned logged) = false
 is_refused (answer.Trap kind) = true
 is_refused (answer.Aborted kind) = false
 is_refused (answer.Stopped phase) = false
 is_refused answer.DeviceFault = true
 is_refused answer.RecoveredNone = false
-is_refused (answer.RecoveredRedone value logged) = false
+is_refused (answer.RecoveredRedone value unsigned logged) = false
 is_refused (answer.RecoveredTrap kind) = true
 is_refused (answer.RecoveredAborted kind) = false
 is_refused (answer.Shown text) = false

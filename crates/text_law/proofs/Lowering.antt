@@ -13,7 +13,8 @@ use Rattle.c_tree.specs.StmtTree.{StmtTree, Statements, SimpleTree, FirstTree, I
 use Rattle.c_tree.specs.ItemTree.{ItemTree, FunctionTree, ParameterTree}
 use Rattle.c_tree.specs.Program.{Program, source_line, tree_of}
 use Rattle.c_types.specs.Tables.{Tables, declared_type, tables_of, pointed_struct}
-use Rattle.c_types.specs.Expressions.{type_of}
+use Rattle.c_tree.specs.Operators.{update_binary}
+use Rattle.c_types.specs.Expressions.{type_of, sides_type}
 use Rattle.c_types.specs.Shapes.{shapes_in}
 use Rattle.ir.specs.declared.instruction.Target.{Target}
 use Rattle.ir.specs.declared.instruction.Instruction.{Instruction}
@@ -24,7 +25,7 @@ use Rattle.ir.specs.declared.function.IrFunction.{IrFunction}
 use Rattle.ir.specs.declared.function.Ir.{Ir}
 use Rattle.lower.specs.declared.form.Form.{Form}
 use Rattle.lower.specs.declared.form.Form.TheVariants.{Both, Either, Direct, Exchanged}
-use Rattle.lower.specs.Forms.{form_of}
+use Rattle.lower.specs.Forms.{form_of, typed_form, operation_of}
 use Rattle.lower.specs.Names.{Variables, inner_variables, variable_declared, register_of}
 use Rattle.lower.specs.Names.{function_number, struct_kind_at, field_target, element_target}
 use Rattle.lower.specs.Names.{kind_named, variable_of}
@@ -94,7 +95,10 @@ module _ (t : Tables) (one two : Program) (node : ℕ → ℕ)
   reg_same v (expr.New place name) q = refl
   reg_same v (expr.Arrow base place name) q = refl
   reg_same v (expr.Index base place index) q = refl
-  reg_same v (expr.Unary o place x) q = refl
+  reg_same v (expr.Unary (unary.Cast n) place x) q = reg_same v x q
+  reg_same v (expr.Unary unary.Negate place x) q = refl
+  reg_same v (expr.Unary unary.Not place x) q = refl
+  reg_same v (expr.Unary unary.Complement place x) q = refl
   reg_same v (expr.Binary o place x y) q = refl
   reg_same v (expr.Conditional c place x y) q = refl
 
@@ -163,12 +167,13 @@ module _ (t : Tables) (one two : Program) (node : ℕ → ℕ)
         both _ _ _ _ (exp_same v x p)
         (rest _ _ _ (ends _ _ (ap (λ (r : ℕ). Bin op.Eq (node (suc (suc q))) r (node (suc q)))
         (reg_same v x q))))
+    exp_same v (expr.Unary (unary.Cast n) place x) p = exp_same v x p
     exp_same v (expr.Binary o place x y) p =
         let q : ℕ = exp_end x p in
         both _ _ _ _ (exp_same v x p)
-        (form_same (form_of o) node (exp_code a v y) (exp_code b v y) (exp_end y) (reg_of a v y)
-        (reg_of b v y) (reg_of a v x q) (reg_of b v x q) q (exp_same v y) (reg_same v y)
-        (reg_same v x q))
+        (form_same (typed_form (sides_type t v.scopes o x y) (form_of o)) node (exp_code a v y)
+        (exp_code b v y) (exp_end y) (reg_of a v y) (reg_of b v y) (reg_of a v x q)
+        (reg_of b v x q) q (exp_same v y) (reg_same v y) (reg_same v x q))
     exp_same v (expr.Conditional c place x y) p =
         let p1 : ℕ = exp_end c p in
         let p2 : ℕ = exp_end x (suc p1) in
@@ -247,7 +252,8 @@ module _ (t : Tables) (one two : Program) (node : ℕ → ℕ)
       → simple_code a v x p ≡ simple_code b v x p
   simple_same v (stmt.Assign x assign.Set place e) p = set_same v (variable_of x) x place e p
   simple_same v (stmt.Assign x (assign.Update o) place e) p =
-      update_same v (variable_of x) x place (update_operation o) (Some e) p
+      update_same v (variable_of x) x place
+      (operation_of (sides_type t v.scopes (update_binary o) x e) (update_operation o)) (Some e) p
   simple_same v (stmt.Step x o place) p =
       update_same v (variable_of x) x place (step_operation o) None p
   simple_same v (stmt.Call name all) p = exp_same v (expr.Call name all) p

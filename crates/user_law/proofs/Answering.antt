@@ -14,7 +14,7 @@ use Rattle.cnvm_session.specs.declared.answer.Answer.{Answer}
 use Rattle.cnvm_session.specs.declared.answer.Answer.TheVariants as answer
 use Rattle.session_law.specs.State.{Pending}
 use Rattle.user_law.specs.Source.{Source, number_named, arity_of, rolls_back, looks, means}
-use Rattle.user_law.specs.Source.{comes_to, pool_of_image}
+use Rattle.user_law.specs.Source.{comes_to, gives_unsigned, pool_of_image}
 use Rattle.user_law.specs.State.{UserStanding, Ready, Idle, Owed, Unusable, UserState, stands_as}
 use Rattle.user_law.specs.Answers.{call_told, recovery_told, finished, UserRuns, UserLooks}
 use Rattle.user_law.specs.Answers.{UserRunsAs, UserCallsWith, UserCallsTo, UserCallsNamed}
@@ -32,14 +32,17 @@ HasEnd R = (a : Answer) × (t : UserState) × CameToEnd a × R a t
 
 module _ (p : Source) (s : UserState) (image : Words) where
   module _ (call : Pending) where
+    abbrev told_of : (rolls : Bool) → Outcome → Answer
+    told_of rolls o = call_told rolls (gives_unsigned p call.tx) (p.logged s.pool call) o
+
     run_of : (rolls : Bool) (o : Outcome) → rolls_back p call.tx ≡ rolls
         → comes_to p s.pool call ≡ o → HasEnd (UserRuns p s image call)
     run_of rolls (Done pool value) marked is = (
-      answer.Done value (p.logged s.pool call),
+      answer.Done value (gives_unsigned p call.tx) (p.logged s.pool call),
       finished Ready p s call,
       tt,
       (
-        sym (ap (λ (o : Outcome). call_told (rolls_back p call.tx) (p.logged s.pool call) o) is),
+        sym (ap (told_of (rolls_back p call.tx)) is),
         refl,
       ),
     )
@@ -48,8 +51,8 @@ module _ (p : Source) (s : UserState) (image : Words) where
       finished Ready p s call,
       tt,
       (
-        sym (ap (λ (o : Outcome). call_told (rolls_back p call.tx) (p.logged s.pool call) o) is
-            ∙ ap (λ (b : Bool). call_told b (p.logged s.pool call) (Trap kind)) marked),
+        sym (ap (told_of (rolls_back p call.tx)) is
+            ∙ ap (λ (b : Bool). told_of b (Trap kind)) marked),
         refl,
       ),
     )
@@ -58,8 +61,8 @@ module _ (p : Source) (s : UserState) (image : Words) where
       finished Ready p s call,
       tt,
       (
-        sym (ap (λ (o : Outcome). call_told (rolls_back p call.tx) (p.logged s.pool call) o) is
-            ∙ ap (λ (b : Bool). call_told b (p.logged s.pool call) (Trap kind)) marked),
+        sym (ap (told_of (rolls_back p call.tx)) is
+            ∙ ap (λ (b : Bool). told_of b (Trap kind)) marked),
         refl,
       ),
     )
@@ -67,10 +70,10 @@ module _ (p : Source) (s : UserState) (image : Words) where
     look_of : (o : Outcome) → means p s.pool call ≡ o → pool_after o s.pool ≡ s.pool
         → HasEnd (UserLooks p s call)
     look_of (Done pool value) is stays = (
-      answer.Done value 0,
+      answer.Done value (gives_unsigned p call.tx) 0,
       s,
       tt,
-      (is ∙ ap (λ (w : PoolMap). Done w value) stays, refl, refl),
+      (is ∙ ap (λ (w : PoolMap). Done w value) stays, refl, refl, refl),
     )
     look_of (Trap kind) is stays = (answer.Aborted kind, s, tt, (is, refl))
 
@@ -147,14 +150,22 @@ module _ (p : Source) (s : UserState) (image : Words) where
 
     module _ (call : Pending) where
       abbrev told : Outcome → Answer
-      told o = recovery_told (rolls_back p call.tx) (p.logged found.pool call) o
+      told o =
+          recovery_told (rolls_back p call.tx) (gives_unsigned p call.tx) (p.logged found.pool call)
+          o
+
+      abbrev its_value : ℤ → Answer
+      its_value value =
+          answer.RecoveredRedone value (gives_unsigned p call.tx) (p.logged found.pool call)
 
       marked_told : (rolls : Bool) (o : Outcome) → rolls_back p call.tx ≡ rolls
           → comes_to p found.pool call ≡ o
-          → recovery_told rolls (p.logged found.pool call) o ≡ told (comes_to p found.pool call)
+          → recovery_told rolls (gives_unsigned p call.tx) (p.logged found.pool call) o
+          ≡ told (comes_to p found.pool call)
       marked_told rolls o marked is =
           sym (ap told is
-          ∙ ap (λ (b : Bool). recovery_told b (p.logged found.pool call) o) marked)
+          ∙ ap (λ (b : Bool).
+          recovery_told b (gives_unsigned p call.tx) (p.logged found.pool call) o) marked)
 
       redo_of : (st : UserStanding) (rolls : Bool) (o : Outcome) → found.standing ≡ st
           → ((a : Answer) → a ≡ told (comes_to p found.pool call)
@@ -162,12 +173,11 @@ module _ (p : Source) (s : UserState) (image : Words) where
           → rolls_back p call.tx ≡ rolls → comes_to p found.pool call ≡ o
           → HasEnd (UserPowers p s image)
       redo_of st rolls (Done pool value) stands ends marked is = (
-        answer.RecoveredRedone value (p.logged found.pool call),
+        its_value value,
         finished Ready p found call,
         tt,
-        told_as st (answer.RecoveredRedone value (p.logged found.pool call))
-            (finished Ready p found call) stands
-            (ends (answer.RecoveredRedone value (p.logged found.pool call))
+        told_as st (its_value value) (finished Ready p found call) stands
+            (ends (its_value value)
             (marked_told rolls (Done pool value) marked is)),
       )
       redo_of st true (Trap kind) stands ends marked is = (

@@ -23,13 +23,13 @@ module _ (p : Source) (s t : UserState) (image : Words) where
       × ((at ≡ phase.Sealing) ⊎ (a ≡ answer.Stopped at)))
       ⊎ ((t ≡ s) ⊎ (t ≡ finished Ready p s call))
   runs_by call answer.Silent is = inr (inr is.1)
-  runs_by call (answer.Done value logged) is = inr (inr is.1)
+  runs_by call (answer.Done value unsigned logged) is = inr (inr is.1)
   runs_by call (answer.Trap kind) is = inr (inr is.1)
   runs_by call (answer.Aborted kind) is = inr (inr is.1)
   runs_by call (answer.Stopped at) is = inl (at, is, inr refl)
   runs_by call answer.DeviceFault is = inl (phase.Sealing, is, inl refl)
   runs_by call answer.RecoveredNone is = inr (inr is.1)
-  runs_by call (answer.RecoveredRedone value logged) is = inr (inr is.1)
+  runs_by call (answer.RecoveredRedone value unsigned logged) is = inr (inr is.1)
   runs_by call (answer.RecoveredTrap kind) is = inr (inr is.1)
   runs_by call (answer.RecoveredAborted kind) is = inr (inr is.1)
   runs_by call (answer.Shown text) is = inr (inr is.1)
@@ -46,20 +46,20 @@ module _ (p : Source) (s t : UserState) (image : Words) where
   -- as before, or no memory
   pub looks_by : (call : Pending) (a : Answer) → UserLooks p s call a t →
       (t ≡ s) ⊎ ((a ≡ answer.NoMemory) × (t ≡ stands_as Idle s))
-  looks_by call (answer.Done value logged) is = inl is.2
+  looks_by call (answer.Done value unsigned logged) is = inl is.2
   looks_by call (answer.Aborted kind) is = inl is.1
   looks_by call answer.NoMemory is = inr (refl, is)
   looks_by call _ is = absurd is
 
   pub tells_by : (a : Answer) → UserTells p s a t → (t ≡ s) ⊎ (t ≡ stands_as Idle s)
   tells_by answer.Silent is = inl is.1
-  tells_by (answer.Done value logged) is = inl is.1
+  tells_by (answer.Done value unsigned logged) is = inl is.1
   tells_by (answer.Trap kind) is = inl is.1
   tells_by (answer.Aborted kind) is = inl is.1
   tells_by (answer.Stopped at) is = inl is.1
   tells_by answer.DeviceFault is = inl is.1
   tells_by answer.RecoveredNone is = inl is.1
-  tells_by (answer.RecoveredRedone value logged) is = inl is.1
+  tells_by (answer.RecoveredRedone value unsigned logged) is = inl is.1
   tells_by (answer.RecoveredTrap kind) is = inl is.1
   tells_by (answer.RecoveredAborted kind) is = inl is.1
   tells_by (answer.Shown text) is = inl is.1
@@ -77,13 +77,13 @@ module _ (p : Source) (s t : UserState) (image : Words) where
   pub recovers_by : (a : Answer) → UserRecovers p s image a t →
       (t ≡ s) ⊎ RecoveryEnds s.standing p s a t
   recovers_by answer.Silent is = inr is
-  recovers_by (answer.Done value logged) is = inr is
+  recovers_by (answer.Done value unsigned logged) is = inr is
   recovers_by (answer.Trap kind) is = inr is
   recovers_by (answer.Aborted kind) is = inr is
   recovers_by (answer.Stopped at) is = inl is.1
   recovers_by answer.DeviceFault is = inl is
   recovers_by answer.RecoveredNone is = inr is
-  recovers_by (answer.RecoveredRedone value logged) is = inr is
+  recovers_by (answer.RecoveredRedone value unsigned logged) is = inr is
   recovers_by (answer.RecoveredTrap kind) is = inr is
   recovers_by (answer.RecoveredAborted kind) is = inr is
   recovers_by (answer.Shown text) is = inr is
@@ -106,13 +106,13 @@ module _ (p : Source) (s t : UserState) (image : Words) where
 
   pub powers_by : (a : Answer) → UserPowers p s image a t → PowersTo a
   powers_by answer.Silent is = inr (inr (is.0, tt, is.1))
-  powers_by (answer.Done value logged) is = inr (inr (is.0, tt, is.1))
+  powers_by (answer.Done value unsigned logged) is = inr (inr (is.0, tt, is.1))
   powers_by (answer.Trap kind) is = inr (inr (is.0, tt, is.1))
   powers_by (answer.Aborted kind) is = inr (inr (is.0, tt, is.1))
   powers_by (answer.Stopped at) is = inr (inr (is.0, tt, is.1))
   powers_by answer.DeviceFault is = inr (inr (is.0, tt, is.1))
   powers_by answer.RecoveredNone is = inr (inr (is.0, tt, is.1))
-  powers_by (answer.RecoveredRedone value logged) is = inr (inr (is.0, tt, is.1))
+  powers_by (answer.RecoveredRedone value unsigned logged) is = inr (inr (is.0, tt, is.1))
   powers_by (answer.RecoveredTrap kind) is = inr (inr (is.0, tt, is.1))
   powers_by (answer.RecoveredAborted kind) is = inr (inr (is.0, tt, is.1))
   powers_by (answer.Shown text) is = inr (inr (is.0, tt, is.1))

@@ -25,7 +25,7 @@ use Rattle.cnvm_session.specs.AnswerText.{answer_text}
 use Rattle.session_law.specs.State.{Pending}
 use Rattle.session_law.specs.Ran.{found_by}
 use Rattle.user_law.specs.Source.{Source, number_named, arity_of, rolls_back, looks, means}
-use Rattle.user_law.specs.Source.{comes_to, pool_of_image}
+use Rattle.user_law.specs.Source.{comes_to, gives_unsigned, pool_of_image}
 use Rattle.user_law.specs.State.{UserStanding, Ready, Idle, Owed, Unusable, UserState, stands_as}
 use Rattle.user_law.specs.State.{state_after}
 use Rattle.user_law.specs.Answers.{call_told, call_told_by, finished, StaysWith, UserRuns}
@@ -48,15 +48,15 @@ by_end : (P : Answer → Type 0) → ((a : Answer) → CameToEnd a → P a)
     → ((at : Phase) → P (answer.Stopped at)) → P answer.DeviceFault → P answer.NoMemory
     → P answer.RefusedNumbers → ((line : ℕ) → P (answer.RefusedPick line)) → (a : Answer) → P a
 by_end P ends off fault none out pick answer.Silent = ends answer.Silent tt
-by_end P ends off fault none out pick (answer.Done value logged) =
-    ends (answer.Done value logged) tt
+by_end P ends off fault none out pick (answer.Done value unsigned logged) =
+    ends (answer.Done value unsigned logged) tt
 by_end P ends off fault none out pick (answer.Trap kind) = ends (answer.Trap kind) tt
 by_end P ends off fault none out pick (answer.Aborted kind) = ends (answer.Aborted kind) tt
 by_end P ends off fault none out pick (answer.Stopped at) = off at
 by_end P ends off fault none out pick answer.DeviceFault = fault
 by_end P ends off fault none out pick answer.RecoveredNone = ends answer.RecoveredNone tt
-by_end P ends off fault none out pick (answer.RecoveredRedone value logged) =
-    ends (answer.RecoveredRedone value logged) tt
+by_end P ends off fault none out pick (answer.RecoveredRedone value unsigned logged) =
+    ends (answer.RecoveredRedone value unsigned logged) tt
 by_end P ends off fault none out pick (answer.RecoveredTrap kind) =
     ends (answer.RecoveredTrap kind) tt
 by_end P ends off fault none out pick (answer.RecoveredAborted kind) =
@@ -83,13 +83,13 @@ module _ (p : Source) (s : UserState) (image : Words) (t : UserState) where
   run_end : (call : Pending) (a : Answer) → CameToEnd a → UserRuns p s image call a t
       → RunEnds call a
   run_end call answer.Silent ends is = is
-  run_end call (answer.Done value logged) ends is = is
+  run_end call (answer.Done value unsigned logged) ends is = is
   run_end call (answer.Trap kind) ends is = is
   run_end call (answer.Aborted kind) ends is = is
   run_end call (answer.Stopped at) ends is = absurd ends
   run_end call answer.DeviceFault ends is = absurd ends
   run_end call answer.RecoveredNone ends is = is
-  run_end call (answer.RecoveredRedone value logged) ends is = is
+  run_end call (answer.RecoveredRedone value unsigned logged) ends is = is
   run_end call (answer.RecoveredTrap kind) ends is = is
   run_end call (answer.RecoveredAborted kind) ends is = is
   run_end call (answer.Shown text) ends is = is
@@ -105,13 +105,16 @@ module _ (p : Source) (s : UserState) (image : Words) (t : UserState) where
 
   -- it is answered as a call that rolls back and takes no record
   abbrev LookEnds : Pending → Answer → Type 0
-  LookEnds call a = StaysWith (call_told true 0 (means p s.pool call)) s a t
+  LookEnds call a =
+      StaysWith (call_told true (gives_unsigned p call.tx) 0 (means p s.pool call)) s a t
 
   look_end : (call : Pending) (a : Answer) → CameToEnd a → UserLooks p s call a t
       → LookEnds call a
-  look_end call (answer.Done value logged) ends is =
-      (ap (answer.Done value) is.1 ∙ sym (ap (call_told true 0) is.0), is.2)
-  look_end call (answer.Aborted kind) ends is = (sym (ap (call_told true 0) is.0), is.1)
+  look_end call (answer.Done value unsigned logged) ends is =
+      let told = ap (call_told true (gives_unsigned p call.tx) 0) is.0 in
+      ((λ i. answer.Done value (is.3 i) (is.1 i)) ∙ sym told, is.2)
+  look_end call (answer.Aborted kind) ends is =
+      (sym (ap (call_told true (gives_unsigned p call.tx) 0) is.0), is.1)
   look_end call answer.NoMemory ends is = absurd ends
   look_end call _ ends is = absurd is
 
@@ -120,13 +123,13 @@ module _ (p : Source) (s : UserState) (image : Words) (t : UserState) where
 
   tell_end : (a : Answer) → CameToEnd a → UserTells p s a t → TellEnds a
   tell_end answer.Silent ends is = is
-  tell_end (answer.Done value logged) ends is = is
+  tell_end (answer.Done value unsigned logged) ends is = is
   tell_end (answer.Trap kind) ends is = is
   tell_end (answer.Aborted kind) ends is = is
   tell_end (answer.Stopped at) ends is = absurd ends
   tell_end answer.DeviceFault ends is = absurd ends
   tell_end answer.RecoveredNone ends is = is
-  tell_end (answer.RecoveredRedone value logged) ends is = is
+  tell_end (answer.RecoveredRedone value unsigned logged) ends is = is
   tell_end (answer.RecoveredTrap kind) ends is = is
   tell_end (answer.RecoveredAborted kind) ends is = is
   tell_end (answer.Shown text) ends is = is
@@ -143,13 +146,13 @@ module _ (p : Source) (s : UserState) (image : Words) (t : UserState) where
   recovery_end : (a : Answer) → CameToEnd a → UserRecovers p s image a t
       → RecoveryEnds s.standing p s a t
   recovery_end answer.Silent ends is = is
-  recovery_end (answer.Done value logged) ends is = is
+  recovery_end (answer.Done value unsigned logged) ends is = is
   recovery_end (answer.Trap kind) ends is = is
   recovery_end (answer.Aborted kind) ends is = is
   recovery_end (answer.Stopped at) ends is = absurd ends
   recovery_end answer.DeviceFault ends is = absurd ends
   recovery_end answer.RecoveredNone ends is = is
-  recovery_end (answer.RecoveredRedone value logged) ends is = is
+  recovery_end (answer.RecoveredRedone value unsigned logged) ends is = is
   recovery_end (answer.RecoveredTrap kind) ends is = is
   recovery_end (answer.RecoveredAborted kind) ends is = is
   recovery_end (answer.Shown text) ends is = is
@@ -186,14 +189,15 @@ module _ (p : Source) (s : UserState) (image : Words) (t : UserState) where
 
   power_end : (a : Answer) → CameToEnd a → UserPowers p s image a t → PowerEnds s.standing a
   power_end answer.Silent ends is = recovered answer.Silent ends is
-  power_end (answer.Done value logged) ends is = recovered (answer.Done value logged) ends is
+  power_end (answer.Done value unsigned logged) ends is =
+      recovered (answer.Done value unsigned logged) ends is
   power_end (answer.Trap kind) ends is = recovered (answer.Trap kind) ends is
   power_end (answer.Aborted kind) ends is = recovered (answer.Aborted kind) ends is
   power_end (answer.Stopped at) ends is = absurd ends
   power_end answer.DeviceFault ends is = absurd ends
   power_end answer.RecoveredNone ends is = recovered answer.RecoveredNone ends is
-  power_end (answer.RecoveredRedone value logged) ends is =
-      recovered (answer.RecoveredRedone value logged) ends is
+  power_end (answer.RecoveredRedone value unsigned logged) ends is =
+      recovered (answer.RecoveredRedone value unsigned logged) ends is
   power_end (answer.RecoveredTrap kind) ends is = recovered (answer.RecoveredTrap kind) ends is
   power_end (answer.RecoveredAborted kind) ends is =
       recovered (answer.RecoveredAborted kind) ends is
@@ -229,7 +233,7 @@ module _ (p : Source) (s : UserState) (image other : Words) (t u : UserState) wh
 
   look_state : (call : Pending) (a : Answer) → UserLooks p s call a t → UserLooks p s call a u
       → t ≡ u
-  look_state call (answer.Done value logged) is so = is.2 ∙ sym so.2
+  look_state call (answer.Done value unsigned logged) is so = is.2 ∙ sym so.2
   look_state call (answer.Aborted kind) is so = is.1 ∙ sym so.1
   look_state call answer.NoMemory is so = is ∙ sym so
   look_state call _ is so = absurd is
@@ -261,14 +265,15 @@ module _ (p : Source) (s : UserState) (image other : Words) (t u : UserState)
 
   power_state : (a : Answer) → UserPowers p s image a t → UserPowers p s other a u → t ≡ u
   power_state answer.Silent is so = same_found answer.Silent is so
-  power_state (answer.Done value logged) is so = same_found (answer.Done value logged) is so
+  power_state (answer.Done value unsigned logged) is so =
+      same_found (answer.Done value unsigned logged) is so
   power_state (answer.Trap kind) is so = same_found (answer.Trap kind) is so
   power_state (answer.Aborted kind) is so = same_found (answer.Aborted kind) is so
   power_state (answer.Stopped at) is so = same_found (answer.Stopped at) is so
   power_state answer.DeviceFault is so = same_found answer.DeviceFault is so
   power_state answer.RecoveredNone is so = same_found answer.RecoveredNone is so
-  power_state (answer.RecoveredRedone value logged) is so =
-      same_found (answer.RecoveredRedone value logged) is so
+  power_state (answer.RecoveredRedone value unsigned logged) is so =
+      same_found (answer.RecoveredRedone value unsigned logged) is so
   power_state (answer.RecoveredTrap kind) is so = same_found (answer.RecoveredTrap kind) is so
   power_state (answer.RecoveredAborted kind) is so =
       same_found (answer.RecoveredAborted kind) is so

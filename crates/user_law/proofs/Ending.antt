@@ -15,6 +15,7 @@ use Rattle.cnvm_session.specs.declared.answer.Answer.TheVariants as answer
 use Rattle.session_law.specs.State.{Pending}
 use Rattle.session_law.specs.Ran.{found_by}
 use Rattle.user_law.specs.Source.{Source, number_named, arity_of, rolls_back, looks, comes_to}
+use Rattle.user_law.specs.Source.{gives_unsigned}
 use Rattle.user_law.specs.State.{UserStanding, Ready, Idle, Owed, Unusable, UserState, stands_as}
 use Rattle.user_law.specs.State.{state_after}
 use Rattle.user_law.specs.Answers.{call_told, recovery_told, call_told_by, recovery_told_by}
@@ -69,13 +70,14 @@ module _ (d b : Device) (es : List CacheEvent) (quiet : IsQuiet d) where
 
   played_quiet : (a : Answer) → PlaysAs a d es b → (IsInterrupted a → ⊥) × IsQuiet b
   played_quiet answer.Silent is = (λ i. i, same_quiet is)
-  played_quiet (answer.Done value logged) is = (λ i. i, all_quiet es d b quiet is)
+  played_quiet (answer.Done value unsigned logged) is = (λ i. i, all_quiet es d b quiet is)
   played_quiet (answer.Trap kind) is = (λ i. i, all_quiet es d b quiet is)
   played_quiet (answer.Aborted kind) is = (λ i. i, all_quiet es d b quiet is)
   played_quiet (answer.Stopped at) is = absurd (no_cut es d b quiet is)
   played_quiet answer.DeviceFault is = absurd (no_fault es d b quiet is)
   played_quiet answer.RecoveredNone is = (λ i. i, all_quiet es d b quiet is)
-  played_quiet (answer.RecoveredRedone value logged) is = (λ i. i, all_quiet es d b quiet is)
+  played_quiet (answer.RecoveredRedone value unsigned logged) is =
+      (λ i. i, all_quiet es d b quiet is)
   played_quiet (answer.RecoveredTrap kind) is = (λ i. i, all_quiet es d b quiet is)
   played_quiet (answer.RecoveredAborted kind) is = (λ i. i, all_quiet es d b quiet is)
   played_quiet (answer.Shown text) is = (λ i. i, same_quiet is)
@@ -104,13 +106,13 @@ module _ (choice : Choice) (d : Device) (quiet : IsQuiet d) where
 
   power_quiet : (a : Answer) → IsQuiet (prepared (command.Power choice) a d)
   power_quiet answer.Silent = cut_quiet
-  power_quiet (answer.Done value logged) = cut_quiet
+  power_quiet (answer.Done value unsigned logged) = cut_quiet
   power_quiet (answer.Trap kind) = cut_quiet
   power_quiet (answer.Aborted kind) = cut_quiet
   power_quiet (answer.Stopped at) = cut_quiet
   power_quiet answer.DeviceFault = cut_quiet
   power_quiet answer.RecoveredNone = cut_quiet
-  power_quiet (answer.RecoveredRedone value logged) = cut_quiet
+  power_quiet (answer.RecoveredRedone value unsigned logged) = cut_quiet
   power_quiet (answer.RecoveredTrap kind) = cut_quiet
   power_quiet (answer.RecoveredAborted kind) = cut_quiet
   power_quiet (answer.Shown text) = cut_quiet
@@ -146,17 +148,17 @@ quiet_script_law p (c ∷ commands) (a ∷ answers) x y quiet arms ran =
 
 -- how each outcome is answered
 
-call_outcome : (rolls : Bool) (logged : ℕ) (o : Outcome) (s : UserState) →
-    UserEndsAs (call_told rolls logged o) (state_after Ready rolls o s)
-call_outcome rolls logged (Done pool value) s = refl
-call_outcome true logged (Trap kind) s = refl
-call_outcome false logged (Trap kind) s = refl
+call_outcome : (rolls unsigned : Bool) (logged : ℕ) (o : Outcome) (s : UserState) →
+    UserEndsAs (call_told rolls unsigned logged o) (state_after Ready rolls o s)
+call_outcome rolls unsigned logged (Done pool value) s = refl
+call_outcome true unsigned logged (Trap kind) s = refl
+call_outcome false unsigned logged (Trap kind) s = refl
 
-recovery_outcome : (rolls : Bool) (logged : ℕ) (o : Outcome) (s : UserState) →
-    UserEndsAs (recovery_told rolls logged o) (state_after Ready rolls o s)
-recovery_outcome rolls logged (Done pool value) s = refl
-recovery_outcome true logged (Trap kind) s = refl
-recovery_outcome false logged (Trap kind) s = refl
+recovery_outcome : (rolls unsigned : Bool) (logged : ℕ) (o : Outcome) (s : UserState) →
+    UserEndsAs (recovery_told rolls unsigned logged o) (state_after Ready rolls o s)
+recovery_outcome rolls unsigned logged (Done pool value) s = refl
+recovery_outcome true unsigned logged (Trap kind) s = refl
+recovery_outcome false unsigned logged (Trap kind) s = refl
 
 -- an answer and a state that are these
 ends_as : (a b : Answer) (t u : UserState) → a ≡ b → t ≡ u → UserEndsAs b u → UserEndsAs a t
@@ -171,7 +173,8 @@ module _ (p : Source) (s t : UserState) (a : Answer) where
       ends_as a answer.RecoveredNone t (stands_as Ready s) is.0 is.1 refl
   recovery_ends (Owed call seal) is =
       ends_as a (recovery_told_by p s call) t (finished Ready p s call) is.0 is.1
-      (recovery_outcome (rolls_back p call.tx) (p.logged s.pool call) (comes_to p s.pool call) s)
+      (recovery_outcome (rolls_back p call.tx) (gives_unsigned p call.tx) (p.logged s.pool call)
+      (comes_to p s.pool call) s)
   recovery_ends (Unusable kind) is = absurd is
 
 module _ (p : Source) (choice : Choice) (x y : UserMoment) (left : x.device.left ≡ None)
@@ -192,7 +195,8 @@ module _ (p : Source) (choice : Choice) (x y : UserMoment) (left : x.device.left
       → PlaysAs a (prepared (command.Power choice) a x.device) es y.device
       → UserPowers p x.state image a y.state → UserEndsAs a y.state
   power_ends answer.Silent es played is = ended answer.Silent is.1
-  power_ends (answer.Done value logged) es played is = ended (answer.Done value logged) is.1
+  power_ends (answer.Done value unsigned logged) es played is =
+      ended (answer.Done value unsigned logged) is.1
   power_ends (answer.Trap kind) es played is = ended (answer.Trap kind) is.1
   power_ends (answer.Aborted kind) es played is = ended (answer.Aborted kind) is.1
   power_ends (answer.Stopped at) es played is =
@@ -200,8 +204,8 @@ module _ (p : Source) (choice : Choice) (x y : UserMoment) (left : x.device.left
   power_ends answer.DeviceFault es played is =
       absurd (no_fault es (powered choice x.device) y.device cut played)
   power_ends answer.RecoveredNone es played is = ended answer.RecoveredNone is.1
-  power_ends (answer.RecoveredRedone value logged) es played is =
-      ended (answer.RecoveredRedone value logged) is.1
+  power_ends (answer.RecoveredRedone value unsigned logged) es played is =
+      ended (answer.RecoveredRedone value unsigned logged) is.1
   power_ends (answer.RecoveredTrap kind) es played is = ended (answer.RecoveredTrap kind) is.1
   power_ends (answer.RecoveredAborted kind) es played is = ended (answer.RecoveredAborted kind) is.1
   power_ends (answer.Shown text) es played is = ended (answer.Shown text) is.1
@@ -227,19 +231,21 @@ module _ (p : Source) (s t : UserState) (image : Words) (d b : Device) (es : Lis
       → (a ≡ call_told_by p s call) × (t ≡ finished Ready p s call) → UserEndsAs a t
   run_ended call a is =
       ends_as a (call_told_by p s call) t (finished Ready p s call) is.0 is.1
-      (call_outcome (rolls_back p call.tx) (p.logged s.pool call) (comes_to p s.pool call) s)
+      (call_outcome (rolls_back p call.tx) (gives_unsigned p call.tx) (p.logged s.pool call)
+      (comes_to p s.pool call) s)
 
   run_ends : (call : Pending) (a : Answer) → PlaysAs a d es b → UserRuns p s image call a t
       → UserEndsAs a t
   run_ends call answer.Silent played is = run_ended call answer.Silent is
-  run_ends call (answer.Done value logged) played is = run_ended call (answer.Done value logged) is
+  run_ends call (answer.Done value unsigned logged) played is =
+      run_ended call (answer.Done value unsigned logged) is
   run_ends call (answer.Trap kind) played is = run_ended call (answer.Trap kind) is
   run_ends call (answer.Aborted kind) played is = run_ended call (answer.Aborted kind) is
   run_ends call (answer.Stopped at) played is = absurd (no_cut es d b quiet played)
   run_ends call answer.DeviceFault played is = absurd (no_fault es d b quiet played)
   run_ends call answer.RecoveredNone played is = run_ended call answer.RecoveredNone is
-  run_ends call (answer.RecoveredRedone value logged) played is =
-      run_ended call (answer.RecoveredRedone value logged) is
+  run_ends call (answer.RecoveredRedone value unsigned logged) played is =
+      run_ended call (answer.RecoveredRedone value unsigned logged) is
   run_ends call (answer.RecoveredTrap kind) played is =
       run_ended call (answer.RecoveredTrap kind) is
   run_ends call (answer.RecoveredAborted kind) played is =
@@ -259,7 +265,7 @@ module _ (p : Source) (s t : UserState) (image : Words) (d b : Device) (es : Lis
 
   look_ends : (call : Pending) (a : Answer) → s.standing ≡ Ready → UserLooks p s call a t
       → UserEndsAs a t
-  look_ends call (answer.Done value logged) ready is =
+  look_ends call (answer.Done value unsigned logged) ready is =
       ap (λ (u : UserState). u.standing) is.2 ∙ ready
   look_ends call (answer.Aborted kind) ready is =
       ap (λ (u : UserState). u.standing) is.1 ∙ ready

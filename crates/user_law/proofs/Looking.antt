@@ -62,13 +62,13 @@ only_same program logs command.Last = refl
 -- no event leaves the device
 none_same : (a : Answer) (d b : Device) → PlaysAs a d [] b → b ≡ d
 none_same answer.Silent d b is = is
-none_same (answer.Done value logged) d b is = is
+none_same (answer.Done value unsigned logged) d b is = is
 none_same (answer.Trap kind) d b is = is
 none_same (answer.Aborted kind) d b is = is
 none_same (answer.Stopped at) d b is = absurd is
 none_same answer.DeviceFault d b is = absurd is
 none_same answer.RecoveredNone d b is = is
-none_same (answer.RecoveredRedone value logged) d b is = is
+none_same (answer.RecoveredRedone value unsigned logged) d b is = is
 none_same (answer.RecoveredTrap kind) d b is = is
 none_same (answer.RecoveredAborted kind) d b is = is
 none_same (answer.Shown text) d b is = is

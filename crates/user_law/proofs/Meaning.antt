@@ -21,14 +21,14 @@ use Rattle.cnvm_session.specs.declared.answer.Answer.{Answer}
 use Rattle.cnvm_session.specs.declared.answer.Answer.TheVariants as answer
 use Rattle.cnvm_session.specs.declared.program.Program.{Program}
 use Rattle.cnvm_session.specs.Commands as commanded
-use Rattle.cnvm_session.specs.Marks.{rolls_back_of, looks_of}
+use Rattle.cnvm_session.specs.Marks.{rolls_back_of, looks_of, unsigned_of}
 use Rattle.cnvm_session.specs.Pool.{sizes_of}
 use Rattle.session_law.specs.Answers as machine
 use Rattle.session_law.specs.Source.{source_parameters, ComesBy}
 use Rattle.session_law.specs.State.{Pending, SourceState}
 use Rattle.session_law.specs.State as session
 use Rattle.session_law.proofs.Logging.{one_outcome}
-use Rattle.user_law.specs.Source.{Source, Logs, rolls_back, comes_to}
+use Rattle.user_law.specs.Source.{Source, Logs, rolls_back, comes_to, gives_unsigned}
 use Rattle.user_law.specs.State.{UserStanding, Ready, Idle, Owed, Unusable, UserState, stands_as}
 use Rattle.user_law.specs.State.{state_after}
 use Rattle.user_law.specs.Answers.{call_told, recovery_told, call_told_by, recovery_told_by}
@@ -95,6 +95,10 @@ module _ (program : Program) (logs : Logs) (count : HasCounts program logs) wher
   rolls zero = refl
   rolls (suc i) = refl
 
+  types : (tx : ℕ) → gives_unsigned p tx ≡ unsigned_of program tx
+  types zero = refl
+  types (suc i) = refl
+
   abbrev Comes : UserState → Pending → ℕ → Outcome → Type 0
   Comes s call n o = ComesBy (marked call) program s.pool call.tx call.args n o
 
@@ -104,17 +108,21 @@ module _ (program : Program) (logs : Logs) (count : HasCounts program logs) wher
       one_outcome (marked call) program s.pool call.tx call.args n (p.logged s.pool call) o
       (comes_to p s.pool call) is (record { logs = count.logged s.pool call; is = refl })
 
-  told_is : (s : UserState) (call : Pending) (n : ℕ) (o : Outcome) → Comes s call n o →
-      call_told (marked call) n o ≡ call_told_by p s call
-  told_is s call n o is =
+  told_is : (s : UserState) (call : Pending) (u : Bool) (n : ℕ) (o : Outcome) →
+      u ≡ unsigned_of program call.tx → Comes s call n o →
+      call_told (marked call) u n o ≡ call_told_by p s call
+  told_is s call u n o type_is is =
       let both = comes s call n o is in
-      λ i. call_told (sym (rolls call.tx) i) (both.0 i) (both.1 i)
+      let same : u ≡ gives_unsigned p call.tx = type_is ∙ sym (types call.tx) in
+      λ i. call_told (sym (rolls call.tx) i) (same i) (both.0 i) (both.1 i)
 
-  retold_is : (s : UserState) (call : Pending) (n : ℕ) (o : Outcome) → Comes s call n o →
-      recovery_told (marked call) n o ≡ recovery_told_by p s call
-  retold_is s call n o is =
+  retold_is : (s : UserState) (call : Pending) (u : Bool) (n : ℕ) (o : Outcome) →
+      u ≡ unsigned_of program call.tx → Comes s call n o →
+      recovery_told (marked call) u n o ≡ recovery_told_by p s call
+  retold_is s call u n o type_is is =
       let both = comes s call n o is in
-      λ i. recovery_told (sym (rolls call.tx) i) (both.0 i) (both.1 i)
+      let same : u ≡ gives_unsigned p call.tx = type_is ∙ sym (types call.tx) in
+      λ i. recovery_told (sym (rolls call.tx) i) (same i) (both.0 i) (both.1 i)
 
   finished_is : (st : UserStanding) (s : UserState) (call : Pending) (n : ℕ) (o : Outcome) →
       Comes s call n o → state_after st (marked call) o s ≡ finished st p s call
@@ -136,49 +144,53 @@ module _ (program : Program) (logs : Logs) (count : HasCounts program logs) wher
     Reended a = HasState t (λ (u : UserState). (a ≡ recovery_told_by p s call)
         × (u ≡ finished Ready p s call))
 
-    done_meant : (value : ℤ) (logged : ℕ) → machine.IsDoneWith (marked call) program (plain s)
-        call.tx call.args value logged session.Ready t → Ended (answer.Done value logged)
-    done_meant value logged is = (
+    done_meant : (value : ℤ) (unsigned : Bool) (logged : ℕ) →
+        machine.IsDoneWith (marked call) program (plain s) call.tx call.args value unsigned logged
+        session.Ready t → Ended (answer.Done value unsigned logged)
+    done_meant value unsigned logged is = (
       finished Ready p s call,
       is.2 ∙ ap plain (finished_is Ready s call logged (Done is.0 value) is.1),
-      (told_is s call logged (Done is.0 value) is.1, refl),
+      (told_is s call unsigned logged (Done is.0 value) is.3 is.1, refl),
     )
 
-    redone_meant : (value : ℤ) (logged : ℕ) → machine.IsDoneWith (marked call) program (plain s)
-        call.tx call.args value logged session.Ready t →
-        Reended (answer.RecoveredRedone value logged)
-    redone_meant value logged is = (
+    redone_meant : (value : ℤ) (unsigned : Bool) (logged : ℕ) →
+        machine.IsDoneWith (marked call) program (plain s) call.tx call.args value unsigned logged
+        session.Ready t → Reended (answer.RecoveredRedone value unsigned logged)
+    redone_meant value unsigned logged is = (
       finished Ready p s call,
       is.2 ∙ ap plain (finished_is Ready s call logged (Done is.0 value) is.1),
-      (retold_is s call logged (Done is.0 value) is.1, refl),
+      (retold_is s call unsigned logged (Done is.0 value) is.3 is.1, refl),
     )
 
     -- a trap, by whether the transaction is marked
     module _ (by : Bool) (marks : marked call ≡ by) (kind : TrapKind)
         (traps : machine.TrapsAs (marked call) program (plain s) call.tx call.args kind)
         (after : t ≡ plain (state_after Ready by (Trap kind) s)) where
+      abbrev typed : Bool
+      typed = unsigned_of program call.tx
+
       trap_state : t ≡ plain (finished Ready p s call)
       trap_state = after ∙ ap (λ (b : Bool). plain (state_after Ready b (Trap kind) s)) (sym marks)
           ∙ ap plain (finished_is Ready s call traps.0 (Trap kind) traps.1)
 
-      trap_meant : Ended (call_told by traps.0 (Trap kind))
+      trap_meant : Ended (call_told by typed traps.0 (Trap kind))
       trap_meant = (
         finished Ready p s call,
         trap_state,
         (
-          ap (λ (b : Bool). call_told b traps.0 (Trap kind)) (sym marks)
-              ∙ told_is s call traps.0 (Trap kind) traps.1,
+          ap (λ (b : Bool). call_told b typed traps.0 (Trap kind)) (sym marks)
+              ∙ told_is s call typed traps.0 (Trap kind) refl traps.1,
           refl,
         ),
       )
 
-      retrap_meant : Reended (recovery_told by traps.0 (Trap kind))
+      retrap_meant : Reended (recovery_told by typed traps.0 (Trap kind))
       retrap_meant = (
         finished Ready p s call,
         trap_state,
         (
-          ap (λ (b : Bool). recovery_told b traps.0 (Trap kind)) (sym marks)
-              ∙ retold_is s call traps.0 (Trap kind) traps.1,
+          ap (λ (b : Bool). recovery_told b typed traps.0 (Trap kind)) (sym marks)
+              ∙ retold_is s call typed traps.0 (Trap kind) refl traps.1,
           refl,
         ),
       )
@@ -188,13 +200,14 @@ module _ (program : Program) (logs : Logs) (count : HasCounts program logs) wher
         machine.RunsBy (marked call) program (plain s) image call.tx call.args a t →
         HasState t (UserRuns p s image call a)
     runs_meant call answer.Silent is = absurd is
-    runs_meant call (answer.Done value logged) is = done_meant s t call value logged is
+    runs_meant call (answer.Done value unsigned logged) is =
+        done_meant s t call value unsigned logged is
     runs_meant call (answer.Trap kind) is = trap_meant s t call false is.0 kind is.1 is.2
     runs_meant call (answer.Aborted kind) is = trap_meant s t call true is.0 kind is.1 is.2
     runs_meant call (answer.Stopped at) is = (stands_as (Owed call at) s, is, refl)
     runs_meant call answer.DeviceFault is = (stands_as (Owed call phase.Sealing) s, is, refl)
     runs_meant call answer.RecoveredNone is = absurd is
-    runs_meant call (answer.RecoveredRedone value logged) is = absurd is
+    runs_meant call (answer.RecoveredRedone value unsigned logged) is = absurd is
     runs_meant call (answer.RecoveredTrap kind) is = absurd is
     runs_meant call (answer.RecoveredAborted kind) is = absurd is
     runs_meant call (answer.Shown text) is = absurd is
@@ -210,7 +223,8 @@ module _ (program : Program) (logs : Logs) (count : HasCounts program logs) wher
 
     look_meant : (call : Pending) (a : Answer) →
         machine.Looks program (plain s) call.tx call.args a t → HasState t (UserLooks p s call a)
-    look_meant call (answer.Done value logged) is = (s, is.2, (is.0, is.1, refl))
+    look_meant call (answer.Done value unsigned logged) is =
+        (s, is.2, (is.0, is.1, refl, is.3 ∙ sym (types call.tx)))
     look_meant call (answer.Aborted kind) is = (s, is.1, (is.0, refl))
     look_meant call answer.NoMemory is = (stands_as Idle s, is, refl)
     look_meant call _ is = absurd is
@@ -252,13 +266,13 @@ module _ (program : Program) (logs : Logs) (count : HasCounts program logs) wher
 
     tells_meant : (a : Answer) → machine.Tells program (plain s) a t → HasState t (UserTells p s a)
     tells_meant answer.Silent is = absurd is
-    tells_meant (answer.Done value logged) is = absurd is
+    tells_meant (answer.Done value unsigned logged) is = absurd is
     tells_meant (answer.Trap kind) is = absurd is
     tells_meant (answer.Aborted kind) is = absurd is
     tells_meant (answer.Stopped at) is = absurd is
     tells_meant answer.DeviceFault is = absurd is
     tells_meant answer.RecoveredNone is = absurd is
-    tells_meant (answer.RecoveredRedone value logged) is = absurd is
+    tells_meant (answer.RecoveredRedone value unsigned logged) is = absurd is
     tells_meant (answer.RecoveredTrap kind) is = absurd is
     tells_meant (answer.RecoveredAborted kind) is = absurd is
     tells_meant (answer.Shown text) is = (s, is.1, (ap answer.Shown is.0, refl))
@@ -299,13 +313,13 @@ module _ (program : Program) (logs : Logs) (count : HasCounts program logs) wher
     rests_meant : (a : Answer) → machine.Rests program (plain (stands_as Idle s)) image a t →
         HasState t (UserRecovers p (stands_as Idle s) image a)
     rests_meant answer.Silent is = absurd is
-    rests_meant (answer.Done value logged) is = absurd is
+    rests_meant (answer.Done value unsigned logged) is = absurd is
     rests_meant (answer.Trap kind) is = absurd is
     rests_meant (answer.Aborted kind) is = absurd is
     rests_meant (answer.Stopped at) is = (stands_as Idle s, is.1, (is.0, refl))
     rests_meant answer.DeviceFault is = (stands_as Idle s, is, refl)
     rests_meant answer.RecoveredNone is = (stands_as Ready s, is, (refl, refl))
-    rests_meant (answer.RecoveredRedone value logged) is = absurd is
+    rests_meant (answer.RecoveredRedone value unsigned logged) is = absurd is
     rests_meant (answer.RecoveredTrap kind) is = absurd is
     rests_meant (answer.RecoveredAborted kind) is = absurd is
     rests_meant (answer.Shown text) is = absurd is
@@ -328,14 +342,14 @@ module _ (program : Program) (logs : Logs) (count : HasCounts program logs) wher
         machine.RedoesBy (marked call) program call (plain (waiting call)) image a t →
         HasState t (UserRecovers p (waiting call) image a)
     redoes_meant call answer.Silent is = absurd is
-    redoes_meant call (answer.Done value logged) is = absurd is
+    redoes_meant call (answer.Done value unsigned logged) is = absurd is
     redoes_meant call (answer.Trap kind) is = absurd is
     redoes_meant call (answer.Aborted kind) is = absurd is
     redoes_meant call (answer.Stopped at) is = (waiting call, is.1, (is.0, refl))
     redoes_meant call answer.DeviceFault is = (waiting call, is, refl)
     redoes_meant call answer.RecoveredNone is = absurd is
-    redoes_meant call (answer.RecoveredRedone value logged) is =
-        redone_meant (waiting call) t call value logged is
+    redoes_meant call (answer.RecoveredRedone value unsigned logged) is =
+        redone_meant (waiting call) t call value unsigned logged is
     redoes_meant call (answer.RecoveredTrap kind) is =
         retrap_meant (waiting call) t call false is.0 kind is.1 is.2
     redoes_meant call (answer.RecoveredAborted kind) is =
@@ -430,8 +444,8 @@ module _ (program : Program) (logs : Logs) (count : HasCounts program logs) wher
         HasState t (UserPowers p s image a)
     powers_meant answer.Silent is =
         recovered_meant answer.Silent is
-    powers_meant (answer.Done value logged) is =
-        recovered_meant (answer.Done value logged) is
+    powers_meant (answer.Done value unsigned logged) is =
+        recovered_meant (answer.Done value unsigned logged) is
     powers_meant (answer.Trap kind) is =
         recovered_meant (answer.Trap kind) is
     powers_meant (answer.Aborted kind) is =
@@ -442,8 +456,8 @@ module _ (program : Program) (logs : Logs) (count : HasCounts program logs) wher
         recovered_meant answer.DeviceFault is
     powers_meant answer.RecoveredNone is =
         recovered_meant answer.RecoveredNone is
-    powers_meant (answer.RecoveredRedone value logged) is =
-        recovered_meant (answer.RecoveredRedone value logged) is
+    powers_meant (answer.RecoveredRedone value unsigned logged) is =
+        recovered_meant (answer.RecoveredRedone value unsigned logged) is
     powers_meant (answer.RecoveredTrap kind) is =
         recovered_meant (answer.RecoveredTrap kind) is
     powers_meant (answer.RecoveredAborted kind) is =

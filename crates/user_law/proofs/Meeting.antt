@@ -329,15 +329,15 @@ module _ (sizes : Sizes) where
   seal_far l far = ap (λ (b : Bool). with_seal b zeros)
       (ne_eqb l 5 (λ e. absurd (omega (arith, e))))
 
-  call_meant : (answer.Done (pos 7) 0 ≡ call_told_by p first call_of_seven)
+  call_meant : (answer.Done (pos 7) false 0 ≡ call_told_by p first call_of_seven)
       × (done_state ≡ finished Ready p first call_of_seven)
   call_meant = (
-    ap (λ (o : Outcome). call_told false 0 o) (sym seven_comes),
+    ap (λ (o : Outcome). call_told false false 0 o) (sym seven_comes),
     ap (λ (o : Outcome). state_after Ready false o first) (sym seven_comes),
   )
 
   call_step : UserStep p (command.Call (codes "seven") []) (blank_moment p)
-      (answer.Done (pos 7) 0) called_moment
+      (answer.Done (pos 7) false 0) called_moment
   call_step = record {
     events = Store SEAL (pos 1) ∷ Flush 5 ∷ Fence ∷ count_events;
     few = omega arith;
@@ -356,13 +356,13 @@ call_met sizes = (called_moment sizes, call_step sizes, refl)
 
 looking_step : (sizes : Sizes) → UserStep (looking_source sizes)
     (command.Call (codes "seven") []) (blank_moment (looking_source sizes))
-    (answer.Done (pos 7) 0) (blank_moment (looking_source sizes))
+    (answer.Done (pos 7) false 0) (blank_moment (looking_source sizes))
 looking_step sizes = record {
   events = [];
   few = omega arith;
   played = refl;
   picks = tt;
-  meant = (refl, refl, refl);
+  meant = (refl, refl, refl, refl);
   kept = blank_keeps (looking_source sizes);
   history = refl;
 }
@@ -474,9 +474,9 @@ module _ (sizes : Sizes) where
   found = stands_as (Owed call_of_seven phase.Sealed) owing
 
   redo_meant : RecoveryEnds (Owed call_of_seven phase.Sealed) (p sizes) found
-      (answer.RecoveredRedone (pos 7) 0) (done_state sizes)
+      (answer.RecoveredRedone (pos 7) false 0) (done_state sizes)
   redo_meant = (
-    ap (λ (o : Outcome). recovery_told false 0 o) (sym (seven_comes sizes)),
+    ap (λ (o : Outcome). recovery_told false false 0 o) (sym (seven_comes sizes)),
     ap (λ (o : Outcome). state_after Ready false o found) (sym (seven_comes sizes)),
   )
 
@@ -490,7 +490,7 @@ module _ (sizes : Sizes) where
   kept_line l = kept_by (l == 5)
 
   redo_step : UserStep (p sizes) (command.Power keep_new) cut_moment
-      (answer.RecoveredRedone (pos 7) 0) done_moment
+      (answer.RecoveredRedone (pos 7) false 0) done_moment
   unfolding view apply put left_cache
   redo_step = record {
     events = count_events;

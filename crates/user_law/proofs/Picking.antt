@@ -14,32 +14,32 @@ use Rattle.cnvm_session.specs.declared.mode.Mode.{Mode}
 use Rattle.cnvm_session.specs.declared.program.Program.{Program}
 use Rattle.cnvm_session.specs.Commands as commanded
 use Rattle.cnvm_session.specs.Commands.{fallen, Commanded}
-use Rattle.cnvm_session.specs.Marks.{owes_marked}
+use Rattle.cnvm_session.specs.Marks.{owes_marked, owes_unsigned}
 use Rattle.cnvm_session.specs.Outcomes.{answer_of_recovery, RecoversBy}
 use Rattle.cnvm_session.specs.Laws.{IsBadPick}
 use Rattle.user_law.specs.Determined.{OnePickLaw}
 use Rattle.user_law.specs.Played.{unfit, TellsPick}
 
 -- a recovery isn't answered with a bad pick
-recovery_told : (choice : Choice) (d : Device) → unfit choice d ≡ None → (r : RecoverAnswer)
-    → TellsPick (command.Power choice) (answer_of_recovery r) d
-recovery_told choice d fits recovered.Clean = fits
-recovery_told choice d fits (recovered.Redone value logged) = fits
-recovery_told choice d fits (recovered.Trap kind) = fits
-recovery_told choice d fits (recovered.Aborted kind) = fits
-recovery_told choice d fits (recovered.Unusable kind) = fits
-recovery_told choice d fits recovered.Numbers = fits
-recovery_told choice d fits (recovered.Off phase) = fits
-recovery_told choice d fits recovered.Failed = fits
-recovery_told choice d fits recovered.NoMemory = fits
+recovery_told : (choice : Choice) (d : Device) → unfit choice d ≡ None → (u : Bool)
+    (r : RecoverAnswer) → TellsPick (command.Power choice) (answer_of_recovery u r) d
+recovery_told choice d fits u recovered.Clean = fits
+recovery_told choice d fits u (recovered.Redone value logged) = fits
+recovery_told choice d fits u (recovered.Trap kind) = fits
+recovery_told choice d fits u (recovered.Aborted kind) = fits
+recovery_told choice d fits u (recovered.Unusable kind) = fits
+recovery_told choice d fits u recovered.Numbers = fits
+recovery_told choice d fits u (recovered.Off phase) = fits
+recovery_told choice d fits u recovered.Failed = fits
+recovery_told choice d fits u recovered.NoMemory = fits
 
 module _ (program : Program) (m n : Mode) (d b : Device) (a : Answer) (k k1 : ℕ) where
-  recovers_told : (choice : Choice) (marked : Bool) → unfit choice d ≡ None
-      → RecoversBy marked program.image (powered choice d) a n b k k1
+  recovers_told : (choice : Choice) (marked u : Bool) → unfit choice d ≡ None
+      → RecoversBy marked u program.image (powered choice d) a n b k k1
       → TellsPick (command.Power choice) a d
-  recovers_told choice marked fits is =
+  recovers_told choice marked u fits is =
       subst (λ (x : Answer). TellsPick (command.Power choice) x d) (sym is.answer)
-      (recovery_told choice d fits is.tx_answer)
+      (recovery_told choice d fits u is.tx_answer)
 
   bad_told : (choice : Choice) (line : ℕ) → unfit choice d ≡ Some line
       → a ≡ answer.RefusedPick line → TellsPick (command.Power choice) a d
@@ -59,6 +59,7 @@ module _ (program : Program) (m n : Mode) (d b : Device) (a : Answer) (k k1 : �
       (is.1 line rises fits).0
   power_told choice None None rises fits is =
       recovers_told choice (owes_marked program (powered choice d))
+      (owes_unsigned program (powered choice d))
       (ap (λ (o : Option ℕ). option_or o (bad (memory_of d) choice.picks)) rises ∙ fits)
       (is.2 rises fits)
 
@@ -86,13 +87,13 @@ module _ (choice : Choice) (d : Device) (line : ℕ) (is : unfit choice d ≡ So
   same_pick : (b : Answer) → TellsPick (command.Power choice) b d → answer.RefusedPick line ≡ b
   unfolding line_in
   same_pick answer.Silent so = absurd (some_none (unfit choice d) line is so)
-  same_pick (answer.Done value logged) so = absurd (some_none (unfit choice d) line is so)
+  same_pick (answer.Done value unsigned logged) so = absurd (some_none (unfit choice d) line is so)
   same_pick (answer.Trap kind) so = absurd (some_none (unfit choice d) line is so)
   same_pick (answer.Aborted kind) so = absurd (some_none (unfit choice d) line is so)
   same_pick (answer.Stopped at) so = absurd (some_none (unfit choice d) line is so)
   same_pick answer.DeviceFault so = absurd (some_none (unfit choice d) line is so)
   same_pick answer.RecoveredNone so = absurd (some_none (unfit choice d) line is so)
-  same_pick (answer.RecoveredRedone value logged) so =
+  same_pick (answer.RecoveredRedone value unsigned logged) so =
       absurd (some_none (unfit choice d) line is so)
   same_pick (answer.RecoveredTrap kind) so = absurd (some_none (unfit choice d) line is so)
   same_pick (answer.RecoveredAborted kind) so = absurd (some_none (unfit choice d) line is so)
@@ -111,13 +112,13 @@ module _ (choice : Choice) (d : Device) (line : ℕ) (is : unfit choice d ≡ So
 one_pick_of : (choice : Choice) (d : Device) (a b : Answer) → IsBadPick a
     → TellsPick (command.Power choice) a d → TellsPick (command.Power choice) b d → a ≡ b
 one_pick_of choice d answer.Silent b bad is so = absurd bad
-one_pick_of choice d (answer.Done value logged) b bad is so = absurd bad
+one_pick_of choice d (answer.Done value unsigned logged) b bad is so = absurd bad
 one_pick_of choice d (answer.Trap kind) b bad is so = absurd bad
 one_pick_of choice d (answer.Aborted kind) b bad is so = absurd bad
 one_pick_of choice d (answer.Stopped at) b bad is so = absurd bad
 one_pick_of choice d answer.DeviceFault b bad is so = absurd bad
 one_pick_of choice d answer.RecoveredNone b bad is so = absurd bad
-one_pick_of choice d (answer.RecoveredRedone value logged) b bad is so = absurd bad
+one_pick_of choice d (answer.RecoveredRedone value unsigned logged) b bad is so = absurd bad
 one_pick_of choice d (answer.RecoveredTrap kind) b bad is so = absurd bad
 one_pick_of choice d (answer.RecoveredAborted kind) b bad is so = absurd bad
 one_pick_of choice d (answer.Shown text) b bad is so = absurd bad

@@ -46,6 +46,7 @@ use Rattle.cnvm_session.specs.declared.program.Program.{Program}
 use Rattle.cnvm_session.specs.Commands as commanded
 use Rattle.cnvm_session.specs.Commands.{call_number, tx_parameters, fallen, Commanded}
 use Rattle.cnvm_session.specs.Marks.{rolls_back_of, looks_of, policy_of, owes_marked}
+use Rattle.cnvm_session.specs.Marks.{unsigned_of, owes_unsigned}
 use Rattle.cnvm_session.specs.Outcomes.{answer_of_call, answer_of_look, answer_of_recovery, RunsBy}
 use Rattle.cnvm_session.specs.Outcomes.{Looks, RunsAs, RecoversBy}
 use Rattle.cnvm_session.specs.Pool.{sizes_of}
@@ -79,7 +80,7 @@ none_played : (most : ℕ) (a why : Answer) (d b : Device) → a ≡ why → Pla
 none_played most a why d b is played =
     subst (λ (x : Answer). Plays most x d b) (sym is) ([], omega arith, played)
 
-module _ (p : Policy) (image : Image) (d b : Device) (k k1 : ℕ) where
+module _ (p : Policy) (u : Bool) (image : Image) (d b : Device) (k k1 : ℕ) where
   abbrev most : ℕ
   most = most_events image
 
@@ -87,7 +88,7 @@ module _ (p : Policy) (image : Image) (d b : Device) (k k1 : ℕ) where
   Made = Plays most
 
   call_plays : (tx : ℕ) (args : List ℤ) (r : CallAnswer) → Called r p image tx args d b k k1 →
-      Made (answer_of_call r) d b
+      Made (answer_of_call u r) d b
   call_plays tx args (called.Done v l) h =
       (due_call p image tx args d.cache, call_few p image tx args d.cache, h.0.played)
   call_plays tx args (called.Trap t) h =
@@ -104,24 +105,24 @@ module _ (p : Policy) (image : Image) (d b : Device) (k k1 : ℕ) where
   call_plays tx args called.Numbers h = absurd h
 
   tx_plays : (tx : ℕ) (args : List ℤ) (r : CallAnswer) → d.on ≡ true →
-      IsTxCalled r p image tx args d b k k1 → Made (answer_of_call r) d b
+      IsTxCalled r p image tx args d b k k1 → Made (answer_of_call u r) d b
   tx_plays tx args r on is = go (standing_of (view d.cache)) refl
     where
-      go : (st : Standing) → standing_of (view d.cache) ≡ st → Made (answer_of_call r) d b
+      go : (st : Standing) → standing_of (view d.cache) ≡ st → Made (answer_of_call u r) d b
       go stands.Ready e = call_plays tx args r (is.ready on e)
       go (stands.Unusable kind) e =
           let same = is.unusable kind on e in
-          none_played most (answer_of_call r) (answer.RefusedUnusable kind) d b
-          (ap answer_of_call same.0) same.1
+          none_played most (answer_of_call u r) (answer.RefusedUnusable kind) d b
+          (ap (answer_of_call u) same.0) same.1
       go stands.Numbers e =
           let same = is.numbers on e in
-          none_played most (answer_of_call r) answer.RefusedNumbers d b (ap answer_of_call same.0)
-          same.1
+          none_played most (answer_of_call u r) answer.RefusedNumbers d b
+          (ap (answer_of_call u) same.0) same.1
       go stands.Off e = absurd (never_off (view d.cache) e)
 
   clean_plays : (es : List CacheEvent) → length es ≤ most → (r : RecoverAnswer) →
       Cleaned r d es b →
-      Made (answer_of_recovery r) d b
+      Made (answer_of_recovery u r) d b
   clean_plays es few recovered.Clean h = (es, few, h)
   clean_plays es few (recovered.Off phase.Unsealed) h = (es, few, h)
   clean_plays es few (recovered.Off phase.Sealing) h = absurd h
@@ -135,7 +136,7 @@ module _ (p : Policy) (image : Image) (d b : Device) (k k1 : ℕ) where
   clean_plays es few recovered.Numbers h = absurd h
 
   redo_plays : (tx : ℕ) (args : List ℤ) (n : ℕ) (r : RecoverAnswer) →
-      Redid r p image tx args n d b k k1 → Made (answer_of_recovery r) d b
+      Redid r p image tx args n d b k k1 → Made (answer_of_recovery u r) d b
   redo_plays tx args n (recovered.Redone v l) h =
       (due_redo p image tx args n d.cache, redo_few p image tx args n d.cache, h.0.played)
   redo_plays tx args n (recovered.Trap t) h =
@@ -157,23 +158,23 @@ module _ (p : Policy) (image : Image) (d b : Device) (k k1 : ℕ) where
   redo_plays tx args n recovered.Numbers h = absurd h
 
   recovery_plays : (r : RecoverAnswer) → d.on ≡ true → IsRecovered r p image d b k k1 →
-      Made (answer_of_recovery r) d b
+      Made (answer_of_recovery u r) d b
   recovery_plays r on is = by_mark (int_eq (view d.cache MARK) (pos 0)) refl
     where
-      numbers : (r ≡ recovered.Numbers) × (b ≡ d) × (k1 ≡ k) → Made (answer_of_recovery r) d b
+      numbers : (r ≡ recovered.Numbers) × (b ≡ d) × (k1 ≡ k) → Made (answer_of_recovery u r) d b
       numbers same =
-          none_played most (answer_of_recovery r) answer.RefusedNumbers d b
-          (ap answer_of_recovery same.0) same.1
+          none_played most (answer_of_recovery u r) answer.RefusedNumbers d b
+          (ap (answer_of_recovery u) same.0) same.1
 
       by_name : (named : Bool) → names_tx image (tx_in d) ≡ named → view d.cache MARK ≡ pos 0 →
           numbers_out image d ≡ false → is_sealed (view d.cache) ≡ true →
-          Made (answer_of_recovery r) d b
+          Made (answer_of_recovery u r) d b
       by_name true e mark out seal =
           redo_plays (tx_in d) (args_in image d) (valid_in image d) r (is.redid on mark out seal e)
       by_name false e mark out seal = numbers (is.unnamed on mark out seal e)
 
       by_seal : (sealed : Bool) → is_sealed (view d.cache) ≡ sealed → view d.cache MARK ≡ pos 0 →
-          numbers_out image d ≡ false → Made (answer_of_recovery r) d b
+          numbers_out image d ≡ false → Made (answer_of_recovery u r) d b
       by_seal true e mark out = by_name (names_tx image (tx_in d)) refl mark out e
       by_seal false e mark out =
           clean_plays (due_clean image.parts.sizes (valid_in image d) d.cache)
@@ -181,32 +182,32 @@ module _ (p : Policy) (image : Image) (d b : Device) (k k1 : ℕ) where
           (is.clean on mark out e)
 
       by_numbers : (out : Bool) → numbers_out image d ≡ out → view d.cache MARK ≡ pos 0 →
-          Made (answer_of_recovery r) d b
+          Made (answer_of_recovery u r) d b
       by_numbers true e mark = numbers (is.numbers on mark e)
       by_numbers false e mark = by_seal (is_sealed (view d.cache)) refl mark e
 
       by_mark : (none : Bool) → int_eq (view d.cache MARK) (pos 0) ≡ none →
-          Made (answer_of_recovery r) d b
+          Made (answer_of_recovery u r) d b
       by_mark true e =
           by_numbers (numbers_out image d) refl ((Decides-int_eq (view d.cache MARK) (pos 0)).0 e)
       by_mark false e =
           let same = is.unusable on (λ mark. let t : true ≡ false =
           sym ((Decides-int_eq (view d.cache MARK) (pos 0)).1 mark) ∙ e in absurd cc) in
-          none_played most (answer_of_recovery r) (answer.RefusedUnusable _) d b
-          (ap answer_of_recovery same.0) same.1
+          none_played most (answer_of_recovery u r) (answer.RefusedUnusable _) d b
+          (ap (answer_of_recovery u) same.0) same.1
 
 -- the device before a recovery is the one that the cut leaves, since no recovery refuses a pick
-prepared_by : (choice : Choice) (d : Device) (r : RecoverAnswer) →
-    prepared (command.Power choice) (answer_of_recovery r) d ≡ powered choice d
-prepared_by choice d recovered.Clean = refl
-prepared_by choice d (recovered.Redone v l) = refl
-prepared_by choice d (recovered.Trap kind) = refl
-prepared_by choice d (recovered.Aborted kind) = refl
-prepared_by choice d (recovered.Unusable kind) = refl
-prepared_by choice d recovered.Numbers = refl
-prepared_by choice d (recovered.Off p) = refl
-prepared_by choice d recovered.Failed = refl
-prepared_by choice d recovered.NoMemory = refl
+prepared_by : (choice : Choice) (d : Device) (u : Bool) (r : RecoverAnswer) →
+    prepared (command.Power choice) (answer_of_recovery u r) d ≡ powered choice d
+prepared_by choice d u recovered.Clean = refl
+prepared_by choice d u (recovered.Redone v l) = refl
+prepared_by choice d u (recovered.Trap kind) = refl
+prepared_by choice d u (recovered.Aborted kind) = refl
+prepared_by choice d u (recovered.Unusable kind) = refl
+prepared_by choice d u recovered.Numbers = refl
+prepared_by choice d u (recovered.Off p) = refl
+prepared_by choice d u recovered.Failed = refl
+prepared_by choice d u recovered.NoMemory = refl
 
 module _ (program : Program) (d b : Device) (a : Answer) (n : Mode) (k k1 : ℕ) where
   abbrev its_most : ℕ
@@ -215,45 +216,47 @@ module _ (program : Program) (d b : Device) (a : Answer) (n : Mode) (k k1 : ℕ)
   abbrev Performed : Answer → Device → Device → Type 0
   Performed = Plays its_most
 
-  runs_play : (marked : Bool) (tx : ℕ) (args : List ℤ) → d.on ≡ true →
-      RunsBy marked program.image tx args d a n b k k1 → Performed a d b
-  runs_play marked tx args on is =
+  runs_play : (marked u : Bool) (tx : ℕ) (args : List ℤ) → d.on ≡ true →
+      RunsBy marked u program.image tx args d a n b k k1 → Performed a d b
+  runs_play marked u tx args on is =
       subst (λ (x : Answer). Performed x d b) (sym is.answer)
-      (tx_plays (policy_of marked) program.image d b k k1 tx args is.tx_answer on is.called)
+      (tx_plays (policy_of marked) u program.image d b k k1 tx args is.tx_answer on is.called)
 
   -- none where the call only looks
   abbrev bound : (looks : Bool) → ℕ
   bound looks = if looks then 0 else its_most
 
-  look_played : (end : End) → b ≡ d → PlaysAs (answer_of_look (look_answer end)) d [] b
-  look_played (Halted v) same = same
-  look_played (Trapped kind) same = same
+  look_played : (u : Bool) (end : End) → b ≡ d
+      → PlaysAs (answer_of_look u (look_answer end)) d [] b
+  look_played u (Halted v) same = same
+  look_played u (Trapped kind) same = same
 
-  look_plays : (tx : ℕ) (args : List ℤ) → d.on ≡ true →
-      Looks program.image tx args d a n b k k1 → Plays 0 a d b
-  look_plays tx args on is = by_answer (is.looked.on on)
+  look_plays : (u : Bool) (tx : ℕ) (args : List ℤ) → d.on ≡ true →
+      Looks u program.image tx args d a n b k k1 → Plays 0 a d b
+  look_plays u tx args on is = by_answer (is.looked.on on)
     where
-      told : (r : LookAnswer) → is.seen ≡ r → PlaysAs (answer_of_look r) d [] b → Plays 0 a d b
-      told r seen = none_played 0 a (answer_of_look r) d b
-          (is.answer ∙ ap answer_of_look seen)
+      told : (r : LookAnswer) → is.seen ≡ r → PlaysAs (answer_of_look u r) d [] b → Plays 0 a d b
+      told r seen = none_played 0 a (answer_of_look u r) d b
+          (is.answer ∙ ap (answer_of_look u) seen)
 
       by_answer : ((is.seen ≡ look_answer (look_at program.image tx args d).end)
           × (k1 ≡ k + (look_at program.image tx args d).steps))
           ⊎ ((is.seen ≡ looked.NoMemory) × (k1 ≡ k)) → Plays 0 a d b
       by_answer (inl seen) = told (look_answer (look_at program.image tx args d).end) seen.0
-          (look_played (look_at program.image tx args d).end is.same)
+          (look_played u (look_at program.image tx args d).end is.same)
       by_answer (inr seen) = told looked.NoMemory seen.0 (inl is.same)
 
-  runs_as_play : (looks marked : Bool) (tx : ℕ) (args : List ℤ) → d.on ≡ true →
-      RunsAs looks marked program.image tx args d a n b k k1 → Plays (bound looks) a d b
-  runs_as_play true marked tx args on is = look_plays tx args on is
-  runs_as_play false marked tx args on is = runs_play marked tx args on is
+  runs_as_play : (looks marked u : Bool) (tx : ℕ) (args : List ℤ) → d.on ≡ true →
+      RunsAs looks marked u program.image tx args d a n b k k1 → Plays (bound looks) a d b
+  runs_as_play true marked u tx args on is = look_plays u tx args on is
+  runs_as_play false marked u tx args on is = runs_play marked u tx args on is
 
   with_plays : (same : Bool) (tx : ℕ) (args : List ℤ) → d.on ≡ true →
       commanded.CallsWith same program tx args d a n b k k1 →
       Plays (bound (looks_of program tx)) a d b
   with_plays true tx args on is =
-      runs_as_play (looks_of program tx) (rolls_back_of program tx) tx args on is
+      runs_as_play (looks_of program tx) (rolls_back_of program tx) (unsigned_of program tx) tx args
+      on is
   with_plays false tx args on is =
       none_played (bound (looks_of program tx)) a answer.RefusedArity d b is.0 is.2
 
@@ -290,13 +293,13 @@ module _ (program : Program) (d b : Device) (a : Answer) (n : Mode) (k k1 : ℕ)
       tells_play (answer.ShownDead trap text) tells same = absurd tells
       tells_play answer.NoMemory tells same = inl same
       tells_play answer.Silent tells same = absurd tells
-      tells_play (answer.Done value logged) tells same = absurd tells
+      tells_play (answer.Done value unsigned logged) tells same = absurd tells
       tells_play (answer.Trap kind) tells same = absurd tells
       tells_play (answer.Aborted kind) tells same = absurd tells
       tells_play (answer.Stopped at) tells same = absurd tells
       tells_play answer.DeviceFault tells same = absurd tells
       tells_play answer.RecoveredNone tells same = absurd tells
-      tells_play (answer.RecoveredRedone value logged) tells same = absurd tells
+      tells_play (answer.RecoveredRedone value unsigned logged) tells same = absurd tells
       tells_play (answer.RecoveredTrap kind) tells same = absurd tells
       tells_play (answer.RecoveredAborted kind) tells same = absurd tells
       tells_play (answer.Last n value) tells same = absurd tells
@@ -326,14 +329,14 @@ module _ (program : Program) (d b : Device) (a : Answer) (n : Mode) (k k1 : ℕ)
   lasts_play (mode.Unusable kind) on is =
       none_played its_most a (answer.RefusedUnusable kind) d b is.0 is.2
 
-  recovers_play : (choice : Choice) (marked : Bool) →
-      RecoversBy marked program.image (powered choice d) a n b k k1 →
+  recovers_play : (choice : Choice) (marked u : Bool) →
+      RecoversBy marked u program.image (powered choice d) a n b k k1 →
       Performed a (prepared (command.Power choice) a d) b
-  recovers_play choice marked is =
+  recovers_play choice marked u is =
       subst (λ (x : Answer). Performed x (prepared (command.Power choice) x d) b) (sym is.answer)
-      (subst (λ (e : Device). Performed (answer_of_recovery is.tx_answer) e b)
-      (sym (prepared_by choice d is.tx_answer))
-      (recovery_plays (policy_of marked) program.image (powered choice d) b k k1 is.tx_answer refl
+      (subst (λ (e : Device). Performed (answer_of_recovery u is.tx_answer) e b)
+      (sym (prepared_by choice d u is.tx_answer))
+      (recovery_plays (policy_of marked) u program.image (powered choice d) b k k1 is.tx_answer refl
       is.recovered))
 
   bad_pick : (choice : Choice) (m : Mode) (line : ℕ) →
@@ -354,7 +357,8 @@ module _ (program : Program) (d b : Device) (a : Answer) (n : Mode) (k k1 : ℕ)
       by_picks (Some line) pick falls bads = bad_pick choice m line (is.0 line falls)
       by_picks None (Some line) rises bads = bad_pick choice m line (is.1 line rises bads)
       by_picks None None rises fits =
-          recovers_play choice (owes_marked program (powered choice d)) (is.2 rises fits)
+          recovers_play choice (owes_marked program (powered choice d))
+          (owes_unsigned program (powered choice d)) (is.2 rises fits)
 
   commanded_plays : (c : Command) (m : Mode) → (m ≡ mode.Ready → d.on ≡ true) →
       Commanded program c m d a n b k k1 → Plays (bound (calls_look program c)) a (prepared c a d) b

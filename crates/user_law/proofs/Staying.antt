@@ -175,13 +175,13 @@ owed_history p choice x y call seal standing history =
 -- a refused pick is no cut
 no_cut : (a : Answer) → IsBadPick a → IsPowerCut a → ⊥
 no_cut answer.Silent bad cut = bad
-no_cut (answer.Done value logged) bad cut = bad
+no_cut (answer.Done value unsigned logged) bad cut = bad
 no_cut (answer.Trap kind) bad cut = bad
 no_cut (answer.Aborted kind) bad cut = bad
 no_cut (answer.Stopped at) bad cut = bad
 no_cut answer.DeviceFault bad cut = bad
 no_cut answer.RecoveredNone bad cut = bad
-no_cut (answer.RecoveredRedone value logged) bad cut = bad
+no_cut (answer.RecoveredRedone value unsigned logged) bad cut = bad
 no_cut (answer.RecoveredTrap kind) bad cut = bad
 no_cut (answer.RecoveredAborted kind) bad cut = bad
 no_cut (answer.Shown text) bad cut = bad

@@ -42,13 +42,13 @@ NoneOrAll call done = (done ≡ []) ⊎ (done ≡ call)
 
 called_all : (call : List Pending) (a : Answer) → NoneOrAll call (called_by call a)
 called_all call answer.Silent = inl refl
-called_all call (answer.Done value logged) = inr refl
+called_all call (answer.Done value unsigned logged) = inr refl
 called_all call (answer.Trap kind) = inl refl
 called_all call (answer.Aborted kind) = inr refl
 called_all call (answer.Stopped at) = inl refl
 called_all call answer.DeviceFault = inl refl
 called_all call answer.RecoveredNone = inl refl
-called_all call (answer.RecoveredRedone value logged) = inl refl
+called_all call (answer.RecoveredRedone value unsigned logged) = inl refl
 called_all call (answer.RecoveredTrap kind) = inl refl
 called_all call (answer.RecoveredAborted kind) = inl refl
 called_all call (answer.Shown text) = inl refl
@@ -87,13 +87,13 @@ module _ (s : SourceState) (image : Words) where
 
   recovered_all : (a : Answer) → NoneOrAll waiting (recovered_by s image a)
   recovered_all answer.Silent = retired_all (is_retired s image)
-  recovered_all (answer.Done value logged) = retired_all (is_retired s image)
+  recovered_all (answer.Done value unsigned logged) = retired_all (is_retired s image)
   recovered_all (answer.Trap kind) = retired_all (is_retired s image)
   recovered_all (answer.Aborted kind) = retired_all (is_retired s image)
   recovered_all (answer.Stopped at) = retired_all (is_retired s image)
   recovered_all answer.DeviceFault = retired_all (is_retired s image)
   recovered_all answer.RecoveredNone = retired_all (is_retired s image)
-  recovered_all (answer.RecoveredRedone value logged) = inr refl
+  recovered_all (answer.RecoveredRedone value unsigned logged) = inr refl
   recovered_all (answer.RecoveredTrap kind) = retired_all (is_retired s image)
   recovered_all (answer.RecoveredAborted kind) = inr refl
   recovered_all (answer.Shown text) = retired_all (is_retired s image)

@@ -21,29 +21,31 @@ use Rattle.cnvm_session.specs.declared.answer.Answer.{Answer}
 use Rattle.cnvm_session.specs.declared.answer.Answer.TheVariants as answer
 use Rattle.session_law.specs.State.{Pending}
 use Rattle.user_law.specs.Source.{Source, number_named, arity_of, rolls_back, looks, means}
-use Rattle.user_law.specs.Source.{comes_to, pool_of_image}
+use Rattle.user_law.specs.Source.{comes_to, gives_unsigned, pool_of_image}
 use Rattle.user_law.specs.State.{UserStanding, Ready, Idle, Owed, Unusable, UserState, stands_as}
 use Rattle.user_law.specs.State.{state_after}
 
 -- how an outcome is answered by a call, and by a recovery that runs the call again
-abbrev pub call_told : (rolls : Bool) → (logged : ℕ) → Outcome → Answer
-call_told rolls logged (Done pool value) = answer.Done value logged
-call_told true logged (Trap kind) = answer.Aborted kind
-call_told false logged (Trap kind) = answer.Trap kind
+abbrev pub call_told : (rolls unsigned : Bool) → (logged : ℕ) → Outcome → Answer
+call_told rolls unsigned logged (Done pool value) = answer.Done value unsigned logged
+call_told true unsigned logged (Trap kind) = answer.Aborted kind
+call_told false unsigned logged (Trap kind) = answer.Trap kind
 
-abbrev pub recovery_told : (rolls : Bool) → (logged : ℕ) → Outcome → Answer
-recovery_told rolls logged (Done pool value) = answer.RecoveredRedone value logged
-recovery_told true logged (Trap kind) = answer.RecoveredAborted kind
-recovery_told false logged (Trap kind) = answer.RecoveredTrap kind
+abbrev pub recovery_told : (rolls unsigned : Bool) → (logged : ℕ) → Outcome → Answer
+recovery_told rolls unsigned logged (Done pool value) =
+    answer.RecoveredRedone value unsigned logged
+recovery_told true unsigned logged (Trap kind) = answer.RecoveredAborted kind
+recovery_told false unsigned logged (Trap kind) = answer.RecoveredTrap kind
 
 abbrev pub call_told_by : Source → UserState → Pending → Answer
 call_told_by p s call =
-    call_told (rolls_back p call.tx) (p.logged s.pool call) (comes_to p s.pool call)
+    call_told (rolls_back p call.tx) (gives_unsigned p call.tx) (p.logged s.pool call)
+    (comes_to p s.pool call)
 
 abbrev pub recovery_told_by : Source → UserState → Pending → Answer
 recovery_told_by p s call =
-    recovery_told (rolls_back p call.tx) (p.logged s.pool call) (comes_to p s.pool
-    call)
+    recovery_told (rolls_back p call.tx) (gives_unsigned p call.tx) (p.logged s.pool call)
+    (comes_to p s.pool call)
 
 -- the call is run to its end
 abbrev pub finished : UserStanding → Source → UserState → Pending → UserState
@@ -71,8 +73,9 @@ UserRuns p s image call a t =
 -- A call that only looks: the source comes to this value, on a pool that stays as it is, or to this
 -- trap, and nothing changes. Or memory was wanting, and nothing is owed.
 abbrev pub UserLooks : Source → UserState → Pending → Answer → UserState → Type 0
-UserLooks p s call (answer.Done value logged) t =
+UserLooks p s call (answer.Done value unsigned logged) t =
     (means p s.pool call ≡ Done s.pool value) × (logged ≡ 0) × (t ≡ s)
+    × (unsigned ≡ gives_unsigned p call.tx)
 UserLooks p s call (answer.Aborted kind) t = (means p s.pool call ≡ Trap kind) × (t ≡ s)
 UserLooks p s call answer.NoMemory t = t ≡ stands_as Idle s
 UserLooks p s call a t = ⊥

@@ -35,13 +35,13 @@ QuietScriptLaw =
 -- The call or the recovery came to an end: calls are taken again, or a trap has ended the pool.
 -- Else a pick didn't fit, a number is at its end, or memory was wanting.
 abbrev pub UserEndsAs : Answer → UserState → Type 0
-UserEndsAs (answer.Done value logged) t = t.standing ≡ Ready
+UserEndsAs (answer.Done value unsigned logged) t = t.standing ≡ Ready
 UserEndsAs (answer.Aborted kind) t = t.standing ≡ Ready
 UserEndsAs (answer.Trap kind) t = t.standing ≡ Unusable kind
 UserEndsAs answer.RefusedUnknown t = t.standing ≡ Ready
 UserEndsAs answer.RefusedArity t = t.standing ≡ Ready
 UserEndsAs answer.RecoveredNone t = t.standing ≡ Ready
-UserEndsAs (answer.RecoveredRedone value logged) t = t.standing ≡ Ready
+UserEndsAs (answer.RecoveredRedone value unsigned logged) t = t.standing ≡ Ready
 UserEndsAs (answer.RecoveredAborted kind) t = t.standing ≡ Ready
 UserEndsAs (answer.RecoveredTrap kind) t = t.standing ≡ Unusable kind
 UserEndsAs (answer.RefusedUnusable kind) t = t.standing ≡ Unusable kind

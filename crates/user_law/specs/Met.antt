@@ -9,6 +9,7 @@ use Rattle.pmem.specs.Device.{Device}
 use Rattle.pmem.specs.declared.answer.Phase.TheVariants as phase
 use Rattle.pool_layout.specs.declared.limits.Sizes.{Sizes}
 use Rattle.pool_layout.specs.Sizes.{pool_lines}
+use Rattle.c_tree.specs.declared.expr.IntType.TheVariants.{Signed}
 use Rattle.c_tree.specs.ExprTree as expr
 use Rattle.c_tree.specs.StmtTree as stmt
 use Rattle.c_tree.specs.declared.item.Marked.{Marked}
@@ -66,7 +67,7 @@ abbrev pub seven : Marked → FunctionTree
 seven mark = record {
   tx = true;
   mark = mark;
-  result_type = Some stmt.Int;
+  result_type = Some (stmt.Int Signed);
   name = record { text = codes "seven"; place = 2 };
   parameters = [];
   body = stmt.Then (stmt.Return 7 (Some (expr.Number (pos 7)))) stmt.Nothing;
@@ -83,7 +84,7 @@ abbrev pub CallMetLaw : Type 0
 CallMetLaw =
     (sizes : Sizes) → (y : UserMoment)
     × UserStep (seven_source sizes) (command.Call (codes "seven") [])
-    (blank_moment (seven_source sizes)) (answer.Done (pos 7) 0) y
+    (blank_moment (seven_source sizes)) (answer.Done (pos 7) false 0) y
     × (y.history ≡ call_of_seven ∷ [])
 
 -- the same of a transaction that only looks
@@ -96,7 +97,7 @@ LookMetLaw =
     (sizes : Sizes) →
     (only_looks (looking_source sizes) (command.Call (codes "seven") []) ≡ true)
     × UserStep (looking_source sizes) (command.Call (codes "seven") [])
-    (blank_moment (looking_source sizes)) (answer.Done (pos 7) 0)
+    (blank_moment (looking_source sizes)) (answer.Done (pos 7) false 0)
     (blank_moment (looking_source sizes))
 
 -- the power cuts that keep the oldest versions, and the newest
@@ -116,7 +117,8 @@ pub record MeetsCut (p : Source) : Type 0 where
   pub safe : IsSafe cut.device
   pub sealed : has_next_seal cut.state (found_by (command.Power keep_new) cut.device) ≡ true
   pub done : UserMoment
-  pub redone : UserStep p (command.Power keep_new) cut (answer.RecoveredRedone (pos 7) 0) done
+  pub redone : UserStep p (command.Power keep_new) cut (answer.RecoveredRedone (pos 7) false 0)
+      done
   pub ready : done.state.standing ≡ Ready
   pub counted : done.history ≡ call_of_seven ∷ []
   pub unsealed : has_next_seal cut.state (found_by (command.Power keep_old) cut.device) ≡ false

@@ -40,11 +40,11 @@ TellsPick c a d = Unit {0}
 -- All events are played where a transaction or a recovery came to its end; some first ones where
 -- the power went, the device failed, or memory was wanting at the next; none else.
 abbrev pub PlaysAs : Answer → Device → List CacheEvent → Device → Type 0
-PlaysAs (answer.Done value logged) d es b = PlaysAll d es b
+PlaysAs (answer.Done value unsigned logged) d es b = PlaysAll d es b
 PlaysAs (answer.Trap kind) d es b = PlaysAll d es b
 PlaysAs (answer.Aborted kind) d es b = PlaysAll d es b
 PlaysAs answer.RecoveredNone d es b = PlaysAll d es b
-PlaysAs (answer.RecoveredRedone value logged) d es b = PlaysAll d es b
+PlaysAs (answer.RecoveredRedone value unsigned logged) d es b = PlaysAll d es b
 PlaysAs (answer.RecoveredTrap kind) d es b = PlaysAll d es b
 PlaysAs (answer.RecoveredAborted kind) d es b = PlaysAll d es b
 PlaysAs (answer.Stopped at) d es b = PlaysPart refusal.Off d es b

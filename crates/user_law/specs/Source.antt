@@ -11,7 +11,7 @@ use Rattle.c_tree.specs.ItemTree.{ItemTree, FunctionTree}
 use Rattle.c_tree.specs.ItemSpelling.{SpellsProgram}
 use Rattle.c_types.specs.Transactions.{is_abort, is_const}
 use Rattle.c_types.specs.Tables.{Tables, tables_of, index_of}
-use Rattle.c_types.specs.Shapes.{shapes_in, transactions_in}
+use Rattle.c_types.specs.Shapes.{shapes_in, transactions_in, is_unsigned}
 use Rattle.rules_law.specs.typed.Programs.{IsWellTyped}
 use Rattle.c_meaning.specs.Transaction.{Outcome, Trap, transaction, transaction_means}
 use Rattle.pool_layout.specs.declared.limits.Sizes.{Sizes}
@@ -56,6 +56,12 @@ rolls_back p tx = option_map_or (λ (f : FunctionTree). is_abort f.mark)
 -- whether the transaction is marked `const`: it only looks at the pool
 abbrev pub looks : Source → (tx : ℕ) → Bool
 looks p tx = option_map_or (λ (f : FunctionTree). is_const f.mark)
+    (transaction p.tables tx) false
+
+-- whether the transaction returns `uint64_t`
+abbrev pub gives_unsigned : Source → (tx : ℕ) → Bool
+gives_unsigned p tx =
+    option_map_or (λ (f : FunctionTree). option_map_or is_unsigned f.result_type false)
     (transaction p.tables tx) false
 
 -- what the source means of a call on a pool: the pool after it and a value, or a trap
