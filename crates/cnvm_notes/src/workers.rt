@@ -1,10 +1,10 @@
 //! The message of the answers to a script of workers.
 
-use crate::lines::{after_slots, first_line, trap_end, worker_answer};
+use crate::lines::{TrapEnd, after_slots, first_line, trap_end, worker_answer};
 use crate::summary::{Refusals, push_message, push_refused, unless_empty, with_line};
 use cnvm_script::{is_word, next_line};
 use nvm_base::Text;
-use plain_notes::{Told, of_worker_trap};
+use plain_notes::{PoolLeft, Told, of_worker_trap};
 use std::alloc::{AllocError, Global};
 use workers_script::{WorkersCommand, read_workers_line};
 
@@ -17,8 +17,10 @@ pub struct WorkersTexts<'a> {
     pub answers: &'a [u8],
     /// Whether compartments were opened or made, so that the answers of that come first.
     pub opened: bool,
-    /// The line of the program of the first trap.
+    /// The lines of the program of the first trap that ended the use of a compartment, and of the
+    /// first that left it as it was.
     pub ended: Option<u64>,
+    pub undone: Option<u64>,
 }
 
 /// A worker: its last call, and the line of the script that began it; 0 before the first.
@@ -28,11 +30,12 @@ struct Worker {
     line: u64,
 }
 
-/// What the answers tell: the first trap, the refusals, and whether the workers are down; and the
+/// What the answers tell: the first traps, the refusals, and whether the workers are down; and the
 /// line of the command at hand.
 #[derive(Drop)]
 struct Found {
     trap: Option<Told>,
+    undone: Option<Told>,
     refusals: Refusals,
     workers: Vec<Worker>,
     down: bool,
@@ -49,6 +52,7 @@ pub fn workers_answers_note(
 ) -> Result<Option<String>, AllocError> {
     let mut found = Found {
         trap: None,
+        undone: None,
         refusals: Refusals::none(),
         workers: Vec::new(alloc),
         down: false,
@@ -106,8 +110,16 @@ fn message(
     run: WorkersTexts<'_>,
     found: Found,
 ) -> Result<Option<String>, AllocError> {
-    let Found { trap, refusals, .. } = found;
+    let Found {
+        trap,
+        undone,
+        refusals,
+        ..
+    } = found;
     let mut message = String::new(alloc);
+    if let Some(undone) = undone {
+        push_message(alloc, &mut message, &undone)?;
+    }
     if let Some(trap) = trap {
         push_message(alloc, &mut message, &trap)?;
     }
@@ -316,37 +328,58 @@ impl Found {
         if answer.starts_with(b"recovered ") || answer.starts_with(b"refused ") {
             self.down = false;
         }
-        if self.trap.is_none() {
-            self.trap = trapped(
-                alloc,
-                run,
-                self.workers.get(worker as usize),
-                worker,
-                answer,
-            )?;
+        match trap_end(answer) {
+            Some(end) => self.trapped(alloc, run, worker, end),
+            None => Ok(()),
+        }
+    }
+
+    /// Adds the message of a trap of this worker, if it is the first of its sort.
+    fn trapped(
+        &mut self,
+        alloc: Global,
+        run: WorkersTexts<'_>,
+        worker: u64,
+        end: TrapEnd<'_>,
+    ) -> Result<(), AllocError> {
+        let own = self.workers.get(worker as usize);
+        match end.left {
+            PoolLeft::Unusable => {
+                if self.trap.is_none() {
+                    self.trap = Some(trapped(alloc, run, own, worker, end)?);
+                }
+            }
+            PoolLeft::Restored => {
+                if self.undone.is_none() {
+                    self.undone = Some(trapped(alloc, run, own, worker, end)?);
+                }
+            }
         }
         Ok(())
     }
 }
 
-/// The message of a trap, if the answer of this worker tells one.
+/// The message of a trap of this worker.
 fn trapped(
     alloc: Global,
     run: WorkersTexts<'_>,
     own: Option<&Worker>,
     worker: u64,
-    answer: &[u8],
-) -> Result<Option<Told>, AllocError> {
-    let Some(end) = trap_end(answer) else {
-        return Ok(None);
-    };
+    end: TrapEnd<'_>,
+) -> Result<Told, AllocError> {
     let kind = String::from_utf8_lossy(alloc, end.kind)?;
     let kind = kind.as_str();
-    let Some(own) = own else {
-        let told = of_worker_trap(alloc, run.script_path, 0, "", worker, kind)?;
-        return Ok(Some(with_line(alloc, told, run.program_path, run.ended)?));
+    let line = match end.left {
+        PoolLeft::Unusable => run.ended,
+        PoolLeft::Restored => run.undone,
     };
-    let called = own.called.as_str();
-    let told = of_worker_trap(alloc, run.script_path, own.line, called, worker, kind)?;
-    Ok(Some(with_line(alloc, told, run.program_path, run.ended)?))
+    let path = run.script_path;
+    let told = match own {
+        Some(own) => {
+            let called = own.called.as_str();
+            of_worker_trap(alloc, path, own.line, called, worker, kind, end.left)?
+        }
+        None => of_worker_trap(alloc, path, 0, "", worker, kind, end.left)?,
+    };
+    with_line(alloc, told, run.program_path, line)
 }

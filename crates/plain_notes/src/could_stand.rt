@@ -6,8 +6,9 @@ use std::alloc::{AllocError, Global};
 pub const NAMES: [&str; 2] = ["name", "1"];
 
 /// The words of the language, which are no names.
-pub const WORDS: [&str; 19] = [
+pub const WORDS: [&str; 20] = [
     "int64_t",
+    "uint64_t",
     "void",
     "struct",
     "persistent",
@@ -50,8 +51,8 @@ const STATEMENT: Group = Group {
     unless: &[],
     name: "a statement",
     tokens: &[
-        "name", "1", "int64_t", "struct", "if", "while", "do", "for", "break", "continue",
-        "return", "NULL", "pm_new", "pm_free", "abort", ";", "(", "{", "root",
+        "name", "1", "int64_t", "uint64_t", "struct", "if", "while", "do", "for", "break",
+        "continue", "return", "NULL", "pm_new", "pm_free", "abort", ";", "(", "{", "root",
     ],
 };
 
@@ -85,14 +86,14 @@ const ITEM: Group = Group {
     by: "persistent",
     unless: &[],
     name: "a struct, constants, the root or a function",
-    tokens: &["persistent", "tx", "void", "int64_t", "struct"],
+    tokens: &["persistent", "tx", "void", "int64_t", "uint64_t", "struct"],
 };
 
 const TYPE: Group = Group {
     by: "int64_t",
     unless: &["for", "persistent"],
     name: "a type",
-    tokens: &["int64_t", "struct"],
+    tokens: &["int64_t", "uint64_t", "struct"],
 };
 
 const GROUPS: [Group; 6] = [STATEMENT, ITEM, EXPRESSION, OPERATOR, ASSIGNMENT, TYPE];

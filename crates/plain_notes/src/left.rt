@@ -5,30 +5,26 @@ use crate::spelled::{Spelled, Within, is, is_name, is_number, is_one};
 use std::alloc::{AllocError, Global};
 
 /// Unsigned numbers of fewer bits: once masked they have no sign, so nothing else differs.
-const NARROW_NOTE: &str = "every number is an `int64_t`: to keep an unsigned x at 32 bits, write \
+const NARROW_NOTE: &str = "every number has 64 bits: to keep a `uint64_t` x at 32 bits, write \
     `x & 0xffffffff` after each `+`, `-`, `*`, `<<` and `~`";
 
 /// Unsigned numbers of 64 bits.
-const WIDE_NOTE: &str = "every number is an `int64_t`: `<`, `/`, `%` and `>>` of an unsigned h \
-    that reaches 2^63 are written otherwise, as `h & 63` for `h % 64`";
+const WIDE_NOTE: &str = "the unsigned numbers have 64 bits: write `uint64_t`";
 
 /// Words that C reserves and the language leaves out.
 const RESERVED: [(&str, &str); 25] = [
     (
         "char",
-        "every number is an `int64_t`: write `int64_t` for `char`",
+        "every number has 64 bits: write `int64_t` for `char`",
     ),
     (
         "short",
-        "every number is an `int64_t`: write `int64_t` for `short`",
+        "every number has 64 bits: write `int64_t` for `short`",
     ),
-    (
-        "int",
-        "every number is an `int64_t`: write `int64_t` for `int`",
-    ),
+    ("int", "every number has 64 bits: write `int64_t` for `int`"),
     (
         "long",
-        "every number is an `int64_t`: write `int64_t` for `long`",
+        "every number has 64 bits: write `int64_t` for `long`",
     ),
     (
         "float",
@@ -38,10 +34,7 @@ const RESERVED: [(&str, &str); 25] = [
         "double",
         "numbers are whole: write an `int64_t` of smaller units for `double`",
     ),
-    (
-        "signed",
-        "every number is an `int64_t`, which has a sign: leave `signed` out",
-    ),
+    ("signed", "an `int64_t` has a sign: leave `signed` out"),
     ("unsigned", NARROW_NOTE),
     (
         "const",
@@ -95,13 +88,16 @@ const RESERVED: [(&str, &str); 25] = [
     ),
 ];
 
+/// The types of numbers.
+const INTS: [&str; 2] = ["int64_t", "uint64_t"];
+
 /// Names that stand for types of numbers with a sign in C.
 const SIGNED: [&str; 9] = [
     "int64", "i64", "ssize_t", "intptr_t", "off_t", "int32", "int32_t", "int16_t", "int8_t",
 ];
 
 /// Names of unsigned types of 64 bits.
-const WIDE: [&str; 6] = ["uint64_t", "uint64", "u64", "size_t", "uintptr_t", "ulong"];
+const WIDE: [&str; 5] = ["uint64", "u64", "size_t", "uintptr_t", "ulong"];
 
 /// Names of unsigned types of fewer bits.
 const NARROW: [&str; 4] = ["uint32_t", "uint16_t", "uint8_t", "uint"];
@@ -112,7 +108,7 @@ fn is_number_type(name: &[u8]) -> bool {
 }
 
 /// Tokens after which a name stands.
-const BEFORE_NAMES: [&str; 5] = ["int64_t", "*", "struct", "->", "."];
+const BEFORE_NAMES: [&str; 6] = ["int64_t", "uint64_t", "*", "struct", "->", "."];
 
 /// What to write instead of what stands at a refused token, if it is C that was left out. `value`
 /// says whether a value could stand there.
@@ -138,7 +134,7 @@ fn some(alloc: Global, note: &str) -> Result<Option<String>, AllocError> {
 }
 
 const ITEM_NOTE: &str =
-    "an item begins with `struct`, `enum`, `persistent`, `tx`, `void` or `int64_t`";
+    "an item begins with `struct`, `enum`, `persistent`, `tx`, `void`, `int64_t` or `uint64_t`";
 
 /// The first note that says what to write instead.
 fn plain_note(near: &Spelled<'_>, value: bool) -> Option<&'static str> {
@@ -240,7 +236,7 @@ fn by_star(near: &Spelled<'_>) -> Option<&'static str> {
     if is(near.before(3), "persistent") {
         return by_root(near.here());
     }
-    if is(last, "int64_t") || is_number_type(last) {
+    if is_one(last, &INTS) || is_number_type(last) {
         return Some("there are no pointers to numbers: put the number into a struct, or return it");
     }
     if is(last, "*") {
@@ -266,7 +262,7 @@ fn by_comma(near: &Spelled<'_>) -> Option<&'static str> {
     if near.in_for() {
         return Some(if alone { FOR_DECLARES } else { FOR_NOTE });
     }
-    let nameless = is_one(near.before(1), &["int64_t", "*"]);
+    let nameless = is_one(near.before(1), &["int64_t", "uint64_t", "*"]);
     match near.within() {
         Within::Body | Within::Fields if nameless => Some("a name is missing before the `,`"),
         Within::Body if alone => Some("put the declarations into `{ }`"),
@@ -304,7 +300,7 @@ const OPERATORS: [&str; 19] = [
 const UPDATES: [&str; 10] = ["*=", "/=", "%=", "+=", "-=", "<<=", ">>=", "&=", "^=", "|="];
 
 fn by_assign(near: &Spelled<'_>) -> Option<&'static str> {
-    if is_one(near.before(1), &["int64_t", "*"]) {
+    if is_one(near.before(1), &["int64_t", "uint64_t", "*"]) {
         return Some("a name is missing before the `=`");
     }
     match near.within() {
@@ -366,7 +362,7 @@ fn at_top(near: &Spelled<'_>) -> Option<&'static str> {
     if is(last, "abort") && is_name(here) && is(near.after(1), "(") {
         return Some("the type is missing: write `tx abort int64_t f() { .. }`");
     }
-    if is(here, "tx") && is_one(last, &["int64_t", "void"]) {
+    if is(here, "tx") && is_one(last, &["int64_t", "uint64_t", "void"]) {
         return Some("`tx` stands before the type: write `tx int64_t f() { .. }`");
     }
     if is(here, "abort") && is(last, "abort") {
@@ -432,7 +428,7 @@ fn by_root(here: &[u8]) -> Option<&'static str> {
 
 fn in_parameters(near: &Spelled<'_>) -> Option<&'static str> {
     let here = near.here();
-    if is_one(here, &[",", ")"]) && is_one(near.before(1), &["int64_t", "*"]) {
+    if is_one(here, &[",", ")"]) && is_one(near.before(1), &["int64_t", "uint64_t", "*"]) {
         return Some("a parameter has a name too, as `int64_t n`");
     }
     if is_name(here) && is(near.before(2), "struct") {
@@ -473,9 +469,9 @@ fn in_body(near: &Spelled<'_>) -> Option<&'static str> {
     if is_one(here, &["tx", "persistent", "void"]) && !is_one(last, &BEFORE_NAMES) {
         return Some("this stands in the body of a function: a `}` above it is missing");
     }
-    if is_one(here, &["int64_t", "struct"]) && is(last, "(") {
+    if is_one(here, &["int64_t", "uint64_t", "struct"]) && is(last, "(") {
         return Some(
-            "there are no casts, and a declaration stands in no brackets but those of `for`",
+            "a cast is to a number, and a declaration stands in no brackets but those of `for`",
         );
     }
     if is(last, "(") && is(near.before(2), "pm_new") {
@@ -498,7 +494,7 @@ fn by_list(near: &Spelled<'_>) -> Option<&'static str> {
     if is(near.here(), ";") {
         return Some("a name is missing after the `,`");
     }
-    if is_one(near.here(), &["int64_t", "struct"]) {
+    if is_one(near.here(), &["int64_t", "uint64_t", "struct"]) {
         return Some("a declaration has its type once: leave it out after the `,`");
     }
     None
@@ -506,7 +502,7 @@ fn by_list(near: &Spelled<'_>) -> Option<&'static str> {
 
 /// Whether the token stands after a comma of a declaration, and so after its type, put there again.
 fn is_listed(near: &Spelled<'_>) -> bool {
-    let number = is(near.before(1), "int64_t") && is(near.before(2), ",");
+    let number = is_one(near.before(1), &INTS) && is(near.before(2), ",");
     let pointer = is(near.before(2), "struct") && is(near.before(3), ",");
     (number || pointer) && (near.within() == Within::Body || near.within() == Within::Fields)
 }
@@ -523,7 +519,7 @@ fn by_type(name: &[u8]) -> Option<&'static str> {
         return Some("there is no `bool`: write `int64_t`, with 0 and 1");
     }
     if is_one(name, &SIGNED) {
-        return Some("every number is an `int64_t`: write `int64_t`");
+        return Some("every number has 64 bits: write `int64_t`");
     }
     None
 }
@@ -553,5 +549,5 @@ fn is_no_type(near: &Spelled<'_>) -> bool {
 fn no_type(alloc: Global, name: &[u8]) -> Result<String, AllocError> {
     let name = String::from_utf8_lossy(alloc, name)?;
     let name = name.as_str();
-    format!(in alloc; "`{name}` is no type: there are `int64_t` and `struct {name} *`")
+    format!(in alloc; "`{name}` is no type: there are `int64_t`, `uint64_t` and `struct {name} *`")
 }

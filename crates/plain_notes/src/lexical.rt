@@ -56,7 +56,7 @@ fn number_note(run: &[u8]) -> &'static str {
         return "a number has no suffix: leave the `L`, `U` or `u` out";
     }
     if run.starts_with(b"0x") || run.starts_with(b"0X") {
-        return "after `0x` come hexadecimal digits, of at most 7fffffffffffffff";
+        return "after `0x` come hexadecimal digits, of at most ffffffffffffffff";
     }
     "a number is decimal digits, or `0x` and hexadecimal digits; a name begins with a letter"
 }

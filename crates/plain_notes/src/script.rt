@@ -347,21 +347,22 @@ fn wrong_argument(word: &[u8]) -> Option<&'static str> {
     };
     match digits(size) {
         Some(count) if count < 19 => None,
-        Some(19) if is_greater(size, greatest(size.len() < word.len())) => {
-            Some("an argument is from -9223372036854775808 to 9223372036854775807")
+        Some(count) if count > 20 => Some("an argument has at most 20 digits"),
+        Some(count) if is_greater(size, greatest(count, size.len() < word.len())) => {
+            Some("an argument is from -9223372036854775808 to 18446744073709551615")
         }
-        Some(19) => None,
-        Some(_) => Some("an argument has at most 19 digits"),
+        Some(_) => None,
         None => Some(argument_note(word)),
     }
 }
 
-/// The greatest size of a number with a `-` or without.
-fn greatest(is_negative: bool) -> &'static [u8] {
-    if is_negative {
-        b"9223372036854775808"
-    } else {
-        b"9223372036854775807"
+/// The greatest size of an argument of 19 or 20 digits, with a `-` or without.
+fn greatest(digits: usize, is_negative: bool) -> &'static [u8] {
+    match (digits, is_negative) {
+        (19, true) => b"9223372036854775808",
+        (19, false) => b"9999999999999999999",
+        (_, true) => b"09223372036854775808",
+        (_, false) => b"18446744073709551615",
     }
 }
 
@@ -392,7 +393,7 @@ fn argument_note(word: &[u8]) -> &'static str {
     if word.starts_with(b"(") || word.ends_with(b")") {
         return "arguments stand without brackets: write `add 5 7`";
     }
-    "an argument is an optional `-` and 1 to 19 decimal digits"
+    "an argument is an optional `-` and 1 to 20 decimal digits"
 }
 
 pub(crate) fn of_event<'a>(name: &'a [u8], others: &Others<'a>) -> Fault<'a> {

@@ -117,7 +117,7 @@ impl<'a> Spelled<'a> {
                 return false;
             }
             back = back.saturating_add(1);
-            if is_one(word, &["int64_t", "struct"]) && self.begins_alone(back) {
+            if is_one(word, &["int64_t", "uint64_t", "struct"]) && self.begins_alone(back) {
                 return true;
             }
         }

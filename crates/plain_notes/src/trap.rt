@@ -104,9 +104,10 @@ pub fn of_worker_trap(
     transaction: &str,
     worker: u64,
     kind: &str,
+    left: PoolLeft,
 ) -> Result<Told, AllocError> {
     let call = worker_text(alloc, script, line, transaction, worker)?;
-    trapped(alloc, call.as_str(), kind, PoolLeft::Unusable)
+    trapped(alloc, call.as_str(), kind, left)
 }
 
 /// The call of a worker in words.

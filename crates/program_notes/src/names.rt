@@ -1,6 +1,7 @@
 //! The names of a program, and how types are told.
 
 use c_tree::Ast;
+use c_tree::expr::IntType;
 use c_tree::item::Item;
 use c_types::{Program, ValueType};
 use plain_notes::{Spelled, is_one, nearest};
@@ -78,7 +79,8 @@ pub(crate) fn type_text(
     ty: ValueType,
 ) -> Result<String, AllocError> {
     match ty {
-        ValueType::Int => String::from_str(alloc, "an `int64_t`"),
+        ValueType::Int(IntType::Signed) => String::from_str(alloc, "an `int64_t`"),
+        ValueType::Int(IntType::Unsigned) => String::from_str(alloc, "a `uint64_t`"),
         ValueType::Null => String::from_str(alloc, "`NULL`"),
         ValueType::Any => String::from_str(alloc, "a value of any type"),
         ValueType::Pointer(at) => match program.struct_at(at) {
@@ -116,7 +118,7 @@ pub(crate) fn locals<'a>(alloc: Global, near: &Spelled<'a>) -> Result<Vec<&'a [u
             words: near.words,
             place,
         };
-        if place != near.place && is_one(one.before(1), &["int64_t", "*"]) {
+        if place != near.place && is_one(one.before(1), &["int64_t", "uint64_t", "*"]) {
             names.push(one.here())?;
         }
     }

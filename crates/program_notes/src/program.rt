@@ -220,15 +220,28 @@ fn constant_told(alloc: Global, here: &[u8], fault: ConstFault) -> Result<Told, 
             "is no constant that is defined before this",
             "the value of a constant is made of numbers and of the constants before it",
         ),
-        ConstFault::BadNumber { .. } => told_of(
+        ConstFault::BadNumber { .. } => bad_number_told(alloc, here),
+        _ => Told::new(alloc, "this stands too deep: a token weighs at most 64")?.with(
+            alloc,
+            "define a constant for a part of the expression",
+        ),
+    }
+}
+
+/// What is told of a number that is too large for a constant, or of a divisor that is 0.
+fn bad_number_told(alloc: Global, here: &[u8]) -> Result<Told, AllocError> {
+    match here.first() {
+        Some(byte) if byte.is_ascii_digit() => told_of(
+            alloc,
+            here,
+            "is over 9223372036854775807",
+            "a constant is an `int64_t`",
+        ),
+        _ => told_of(
             alloc,
             here,
             "has 0 on its right side",
             "a constant has a value without a trap",
-        ),
-        _ => Told::new(alloc, "this stands too deep: a token weighs at most 64")?.with(
-            alloc,
-            "define a constant for a part of the expression",
         ),
     }
 }

@@ -274,7 +274,7 @@ fn bad_tx(alloc: Global, near: &Spelled<'_>, name: &str) -> Result<Told, AllocEr
         return noted(
             alloc,
             what.as_str(),
-            "a `tx` gives an `int64_t`, and all its parameters are `int64_t`",
+            "a `tx` gives a number, and all its parameters are numbers",
         );
     }
     let what = format!(in alloc; "`{name}` is a transaction, and no function calls one")?;
@@ -299,7 +299,7 @@ fn takes_ints(near: &Spelled<'_>) -> bool {
 }
 
 /// The tokens with which a function's type ends.
-const TYPE_ENDS: [&str; 3] = ["void", "int64_t", "*"];
+const TYPE_ENDS: [&str; 4] = ["void", "int64_t", "uint64_t", "*"];
 
 fn mismatch(alloc: Global, ast: &Ast, near: &Spelled<'_>, name: &str) -> Result<Told, AllocError> {
     let program = Program::new(alloc, ast.items())?;
@@ -328,7 +328,7 @@ fn clash_told(
     }
 }
 
-const NUMBER: &str = "takes an `int64_t`, and is given";
+const NUMBER: &str = "takes a number, and is given";
 
 const POINTER: &str = "takes a pointer, and is given";
 
@@ -414,7 +414,11 @@ fn compared(alloc: Global, told: Told, name: &str) -> Result<Told, AllocError> {
 }
 
 fn is_with_number(left: ValueType, right: ValueType) -> bool {
-    is_pointer(left) && right == ValueType::Int
+    is_pointer(left) && is_int(right)
+}
+
+fn is_int(ty: ValueType) -> bool {
+    matches!(ty, ValueType::Int(_))
 }
 
 fn is_pointer(ty: ValueType) -> bool {
@@ -460,7 +464,7 @@ fn gives(
 
 /// The message, with a note where a number stands for a pointer.
 fn null_for(alloc: Global, told: Told, given: ValueType) -> Result<Told, AllocError> {
-    if given == ValueType::Int {
+    if is_int(given) {
         return told.with(
             alloc,
             "no number is a pointer: the pointer to nothing is `NULL`",
@@ -490,7 +494,7 @@ fn indexed(
             alloc,
             program,
             "[",
-            "takes an `int64_t` as index, and is given",
+            "takes a number as index, and is given",
             index,
         ),
     }
@@ -528,7 +532,7 @@ fn another_value(
         ("the function gives ", wanted),
         (", and this `return` gives ", ty),
     )?;
-    if wanted == ValueType::Int && ty == ValueType::Null {
+    if is_int(wanted) && ty == ValueType::Null {
         return told.with(alloc, "`NULL` is a pointer: write 0");
     }
     null_for(alloc, told, ty)
