@@ -6,12 +6,15 @@ and a transaction of two arguments, with every assignment that the language has,
 and of several names, `while`, `do` and `for` loops with `break` and `continue`, and expressions of
 all operators. Nothing in these traps: a divisor is from 1 to 256, an index stays within its array,
 loops are bounded, and a shift's count is taken modulo 64. Three programs of four have a transaction
-that only looks too, which may trap at a null, an index, a divisor, or by `abort`."""
+that only looks too, which may trap at a null, an index, a divisor, or by `abort`. Two of three mix
+both types of ints in fields, locals, parameters and results, with casts and large numbers."""
 
 import random
 import re
 
 FIELDS, LENGTH = ["a", "b", "c"], 4
+# Numbers that only `uint64_t` shows as they are written.
+LARGE = [1 << 63, (1 << 64) - 1]
 UPDATES = ["+=", "-=", "*=", "&=", "^=", "|="]
 PLAIN = ["+", "-", "*", "&", "|", "^"]
 TRUTHS = ["<", "<=", ">", ">=", "==", "!=", "&&", "||"]
@@ -31,6 +34,8 @@ class Drawn:
         self.constants = {"SIZE": LENGTH, "LOW": self.chance.randint(-9, 9), "MORE": None}
         # Whether what is drawn may not store, and whether there is a transaction that only looks.
         self.only_looks, self.has_look = False, self.chance.random() < 0.75
+        # How often a type is `uint64_t`, and the types of the root's fields and of results.
+        self.share, self.types = self.chance.choice([0, 0.3, 0.6]), {}
         self.drawn = "\n".join(self.items()) + "\n"
         self.text = re.sub("|".join([TRUTH, *TESTS]), "", self.drawn)
         self.calls = [call for _ in range(4) for call in (*self.looks(), self.call("work"))]
@@ -45,23 +50,33 @@ class Drawn:
 
     def number(self):
         return self.chance.choice([0, 1, 2, 3, 7, -1, -2, 255, 1 << 40, -(1 << 62), (1 << 63) - 1,
-                                   self.chance.randint(-1000, 1000)])
+                                   *LARGE, self.chance.randint(-1000, 1000)])
+
+    def type(self):
+        """A type of ints."""
+        return "uint64_t" if self.chance.random() < self.share else "int64_t"
+
+    def head(self, mark, name, names):
+        """The line that a function of ints begins with."""
+        self.types[name] = self.type()
+        given = ", ".join(f"{self.type()} {it}" for it in names)
+        return f"{mark}{self.types[name]} {name}({given}) {{"
 
     def items(self):
         low = self.constants["LOW"]
         yield f"enum {{ SIZE = {LENGTH}, LOW = {low}, MORE, LAST = SIZE * 2 - LOW }};"
-        links = self.fields("struct Node", ["*next", "*last"])
-        yield f"struct Node {{ {self.fields('int64_t', ['v', 'w'])} {links} }};"
-        numbers = self.fields("int64_t", ["a", "b", "c", "t[SIZE]"])
+        links = self.fields(["*next", "*last"], "struct Node")
+        yield f"struct Node {{ {self.fields(['v', 'w'])} {links} }};"
+        numbers = self.fields([*FIELDS, "t[SIZE]"])
         yield f"struct Root {{ {numbers} struct Node *head; }};"
         yield "persistent struct Root root;"
         self.locals = ["x", "y"]
-        yield "int64_t helper(int64_t x, int64_t y) {"
+        yield self.head("", "helper", self.locals)
         yield from self.block(2, 1)
         yield f"    return {self.expression(2)};"
         yield "}"
         self.locals = ["p", "q"]
-        yield "tx abort int64_t work(int64_t p, int64_t q) {"
+        yield self.head("tx abort ", "work", self.locals)
         yield "    if (root.head == NULL) { root.head = pm_new(struct Node); }"
         yield from self.block(5, 1, calls=True)
         yield f"    return {self.expression(3)};"
@@ -72,9 +87,9 @@ class Drawn:
 
     def look(self):
         """A transaction that only looks, with what it calls."""
-        for head, name in ("int64_t", "seen"), ("tx const int64_t", "look"):
+        for mark, name in ("", "seen"), ("tx const ", "look"):
             self.locals = ["x", "y"]
-            yield f"{head} {name}(int64_t x, int64_t y) {{"
+            yield self.head(mark, name, self.locals)
             if self.chance.randrange(2):
                 yield f"    {self.risk()}"
             yield from self.block(4, 1, calls=name == "look")
@@ -84,23 +99,28 @@ class Drawn:
     def risk(self):
         """A statement that may trap, in one way alone."""
         local = self.chance.choice(self.locals)
-        divided = f"{self.value()} {self.chance.choice('/%')} NONZERO({local})"
+        # From 0 to 7, since gcc's program would end at the least word divided by -1.
+        divided = f"{self.value()} {self.chance.choice('/%')} NONZERO({local} & 7)"
         return self.chance.choice([
             f"if ({local} > 200) {{ abort(); }}",
             f"{local} += root.t[WITHIN({local})];",
             f"{local} = {divided};",
             f"if ({local} > 0) {{ {local} ^= SOME(root.head)->next == NULL; }}"])
 
-    def fields(self, type, names):
+    def fields(self, names, type=None):
         """Declarations of these names, some of them together."""
-        together = self.chance.randint(1, len(names))
-        lists = [names[:together], *([it] for it in names[together:])]
-        return " ".join(f"{type} {', '.join(it)};" for it in lists)
+        together, declared = self.chance.randint(1, len(names)), []
+        for some in [names[:together], *([it] for it in names[together:])]:
+            of = type or self.type()
+            self.types.update(dict.fromkeys(some, of))
+            declared.append(f"{of} {', '.join(some)};")
+        return " ".join(declared)
 
     def value(self):
         kind = self.chance.randrange(7)
         if kind == 0:
-            return str(self.chance.randint(0, 300))
+            large = [hex(it) for it in LARGE] if self.share else []
+            return self.chance.choice([str(self.chance.randint(0, 300)), "0xff", *large])
         if kind == 1:
             return self.chance.choice(["SIZE", "LOW", "MORE", "LAST"])
         if kind == 2:
@@ -124,7 +144,8 @@ class Drawn:
         if kind == 1:
             return f"({left} {self.chance.choice(['<<', '>>'])} ({right} & 63))"
         if kind == 2:
-            return self.chance.choice([f"(-{left})", f"(~{left})", f"{TRUTH}(!{left})"])
+            casts = [f"(({it}) {left})" for it in ("int64_t", "uint64_t") if self.share]
+            return self.chance.choice([f"(-{left})", f"(~{left})", f"{TRUTH}(!{left})", *casts])
         if kind < 5:
             return f"{TRUTH}({left} {self.chance.choice(TRUTHS)} {right})"
         return f"({left} {self.chance.choice(PLAIN)} {right})"
@@ -171,7 +192,7 @@ class Drawn:
         kind = self.chance.randrange(9)
         if kind == 0 and depth < 4:
             names = [self.begun() for _ in range(self.chance.choice([1, 1, 2, 3]))]
-            return [f"int64_t {', '.join(names)};"]
+            return [f"{self.type()} {', '.join(names)};"]
         if kind in (1, 2) and depth < 4:
             return self.loop(depth, calls)
         if kind == 3 and depth < 4:
@@ -202,8 +223,9 @@ class Drawn:
         inner = [line[4 * depth:] for line in self.block(2, depth + 1, calls, loop=True)]
         # The count is no local of the list, so nothing assigns it, and each round raises it.
         if kind == 0:
-            return [f"for (int64_t {count} = 0; {count} < {most}; {count}++) {{", *inner, "}"]
-        head = f"int64_t {count} = 0;"
+            head = f"{self.type()} {count} = 0"
+            return [f"for ({head}; {count} < {most}; {count}++) {{", *inner, "}"]
+        head = f"{self.type()} {count} = 0;"
         if kind == 1:
             return [head, f"while ({count} < {most}) {{", f"    {count} += 1;", *inner, "}"]
         return [head, "do {", f"    {count} += 1;", *inner, f"}} while ({count} < {most});"]

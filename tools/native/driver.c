@@ -72,7 +72,8 @@ static int words_of(char *line, char **words) {
     return count;
 }
 
-static int64_t number(const char *word) { return strtoll(word, NULL, 10); }
+/* A number from -2^63 to 2^64 - 1, as a word. */
+static int64_t number(const char *word) { return (int64_t)strtoull(word, NULL, 10); }
 
 /* A call, of its name and its arguments. */
 static struct call call_of(char **words, int count) {
