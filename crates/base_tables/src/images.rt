@@ -134,7 +134,7 @@ fn wanted_of(sizes: Sizes, txs: u64, structs: u64) -> Wanted {
 #[test]
 fn small_images_are_read_by_rule(rt: HostRuntime) -> Result<(), Fail> {
     let alloc = rt.alloc();
-    let Some(sizes) = Sizes::new(1, 1, 1, 100_000) else {
+    let Some(sizes) = Sizes::new(1, 1, 1, 16, 100_000) else {
         assert!(rt; false, "the sizes are within their limits");
         return Ok(());
     };
@@ -316,7 +316,7 @@ fn content_is_judged_by_rule(rt: HostRuntime) -> Result<(), Fail> {
     let alloc = rt.alloc();
     // two slots, three records, nine root words: the heap starts at word 72, its headers are words
     // 88 and 104
-    let Some(sizes) = Sizes::new(2, 3, 9, 1) else {
+    let Some(sizes) = Sizes::new(2, 3, 9, 16, 1) else {
         assert!(rt; false, "the sizes are within their limits");
         return Ok(());
     };
@@ -382,19 +382,20 @@ fn places_and_digests(rt: HostRuntime) -> Result<(), Fail> {
         (65_535, 4096, 512, 1_000_000, Some(135_236)),
         (1, 1, 1, 1, Some(10)),
         (0, 1, 1, 1, None),
-        (65_536, 1, 1, 1, None),
+        (1_048_576, 65_536, 65_536, 1_000_000, Some(2_170_886)),
+        (1_048_577, 1, 1, 1, None),
         (1, 0, 1, 1, None),
-        (1, 4097, 1, 1, None),
+        (1, 65_537, 1, 1, None),
         (1, 1, 0, 1, None),
-        (1, 1, 513, 1, None),
+        (1, 1, 65_537, 1, None),
         (1, 1, 1, 0, None),
         (1, 1, 1, 1_000_001, None),
     ] {
-        let sizes = Sizes::new(slots, records, root_words, ticks);
+        let sizes = Sizes::new(slots, records, root_words, 16, ticks);
         let lines = sizes.map(|sizes| pool_lines(&sizes));
         assert_eq!(rt; lines, want, "{slots} {records} {root_words} {ticks}");
     }
-    if let Some(sizes) = Sizes::new(2, 3, 9, 1) {
+    if let Some(sizes) = Sizes::new(2, 3, 9, 16, 1) {
         let layout = Layout::new(&sizes);
         for (word, place) in [
             (15, Place::Super(15)),

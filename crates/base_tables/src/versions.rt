@@ -25,10 +25,10 @@ fn a_cache_keeps_its_versions(rt: HostRuntime) -> Result<(), Fail> {
     assert_eq!(rt; line_one(&cache), Some((2, 3, 4)));
 
     for (line, version, want) in [
-        (3, 0, Some(3)),
-        (1, 2, Some(1)),
+        (3, 0, Some((3, 0))),
+        (1, 2, Some((1, 2))),
         (1, 0, None),
-        (1, 1, Some(1)),
+        (1, 1, Some((1, 1))),
     ] {
         let mut picks = Picks::new(rt.alloc());
         picks.push(Pick { line, version })?;
@@ -38,7 +38,7 @@ fn a_cache_keeps_its_versions(rt: HostRuntime) -> Result<(), Fail> {
         });
         assert_eq!(rt;
             answer.err(),
-            want.map(|line| BadPick { line }),
+            want.map(|(line, versions)| BadPick { line, versions }),
             "at {line} {version}"
         );
     }

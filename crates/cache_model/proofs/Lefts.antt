@@ -8,7 +8,8 @@ use Rattle.std.proofs.lemmas.Bool.{cases_eq, ltb-true, lt-ltb}
 use Rattle.std.proofs.lemmas.List.{length-map, get_or-set_same, get_or-set_other}
 use Rattle.std.proofs.Math.ListN.{get_or-map}
 use Rattle.cache_model.specs.Cache.{Memory, versions}
-use Rattle.cache_model.specs.Collapse.{picked, left_line, left_cache, is_good_pick, bad, collapse}
+use Rattle.cache_model.specs.Collapse.{picked, left_line, left_cache, is_good_pick, version_count}
+use Rattle.cache_model.specs.Collapse.{bad, collapse}
 use Rattle.cache_model.specs.Collapse.{Rises, RisesFrom}
 use Rattle.cache_model.specs.Lists.{ListLine, blank_list, IsWhole, version_words, line_from}
 use Rattle.cache_model.specs.Lists.{cache_from, memory_from}
@@ -169,3 +170,10 @@ has_good ls m p v n same below found is =
     ∙ ap (λ (b : Bool). b && nat_lt p.version (length (versions (cache_from ls p.line))))
     (sym (lt-ltb p.line (length ls) lt))
     ∙ ap (λ (z : List ListLine). is_good_pick (memory_from z) p) same
+
+pub count_is : (ls : List ListLine) (l : ℕ) → l < length ls
+    → length (get_or ls l blank_list).older + 1 ≡ version_count (memory_from ls) l
+count_is ls l lt =
+    sym (has_of ls (record { line = l; version = 0 }))
+    ∙ sym (ap (λ (b : Bool). cond b (length (versions (cache_from ls l))) 0)
+    (lt-ltb l (length ls) lt))

@@ -33,6 +33,10 @@ left_cache c rest picks l = left_line rest (picked picks l) (c l)
 abbrev pub is_good_pick : Memory → Pick → Bool
 is_good_pick m p = nat_lt p.line m.lines && nat_lt p.version (length (versions (m.cache p.line)))
 
+-- how many versions a line has; none if the memory doesn't have the line
+abbrev pub version_count : Memory → ℕ → ℕ
+version_count m l = cond (nat_lt l m.lines) (length (versions (m.cache l))) 0
+
 -- the line of the first bad pick
 abbrev pub bad : Memory → List Pick → Option ℕ
 bad m [] = None

@@ -5,7 +5,7 @@ ghost use Rattle.std.specs.Prelude.{length, [], ◌+◌, slice_index_or};
 ghost use Rattle.cache_model.specs.Cache.{blank, view};
 ghost use Rattle.cache_model.specs.Event.{Store, Flush, Fence};
 ghost use Rattle.cache_model.specs.Play.{after};
-ghost use Rattle.cache_model.specs.Collapse.{bad, is_good_pick, collapse, Rises};
+ghost use Rattle.cache_model.specs.Collapse.{bad, is_good_pick, version_count, collapse, Rises};
 ghost use Rattle.cache_model.specs.Lists.{blank_list, cache_from, memory_from, IsWhole};
 ghost use Rattle.cache_model.specs.inside.Lists.{list_fence, list_picked, list_rest, AreIn};
 
@@ -131,6 +131,16 @@ impl Cache {
         pick.version < self.all[pick.line as usize].len()
     }
 
+    /// The number of versions of a line, or 0 if there is no such line.
+    fn version_count(&self, line: u64) -> u64
+        ensures { result ≡ version_count (memory_from self.now) line }
+    {
+        if line >= self.lines() {
+            return 0;
+        }
+        self.versions(line)
+    }
+
     /// Cuts the power: each line keeps the version that the choice says. On `BadPick`, which names
     /// the first pick whose line or version doesn't exist, nothing changes. It takes no memory.
     pub fn collapse(&mut self, choice: &Choice) -> Result<(), BadPick>
@@ -140,12 +150,15 @@ impl Cache {
             choice.now) }
         ensures bad { IfErr result (λ pick. bad (memory_from self.old) choice.now.picks
             ≡ Some pick.line) }
+        ensures versions { IfErr result (λ pick. pick.versions
+            ≡ version_count (memory_from self.old) pick.line) }
         ensures refused { OnErr result (self.new ≡ self.old) }
         ensures lines { length self.new ≡ length self.old }
     {
         let picks = choice.picks.as_slice();
         if let Some(line) = self.bad_pick(picks) {
-            return Err(BadPick { line });
+            let versions = self.version_count(line);
+            return Err(BadPick { line, versions });
         }
         keep_picked(&mut self.all, picks);
         keep_rest(&mut self.all, choice.rest);

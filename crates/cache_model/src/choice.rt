@@ -20,10 +20,19 @@ pub struct Pick {
     pub version: u64,
 }
 
-/// The line of the first pick whose line or version doesn't exist.
+/// The line of the first pick whose line or version doesn't exist, and how many versions it has: 0
+/// if there is no such line.
 #[derive(Clone, Copy, Debug, PartialEq, Eq, Drop)]
 pub struct BadPick {
     pub line: u64,
+    pub versions: u64,
+}
+
+/// Why a choice was refused, as data for a message: its picks don't rise, or one isn't there.
+#[derive(Clone, Copy, Debug, PartialEq, Eq, Drop)]
+pub enum PickFault {
+    Falling,
+    Missing(BadPick),
 }
 
 /// A list of picks.

@@ -8,9 +8,7 @@ mod cache;
 mod choice;
 mod laws;
 mod line;
-mod slot;
 
 pub use cache::Cache;
-pub use choice::{BadPick, Choice, Pick, Picks, Rest};
+pub use choice::{BadPick, Choice, Pick, PickFault, Picks, Rest};
 pub use laws::cache_laws;
-pub use slot::SLOT_WORDS;

@@ -9,7 +9,6 @@ ghost use Rattle.pmem.specs.Device.{memory_of, blanked, powered, with_left, with
 ghost use Rattle.pmem.specs.Played.{Answered, Stored};
 ghost use Rattle.pmem.specs.Switch.{untold, fresh_switch};
 ghost use Rattle.pmem.specs.Zeros.{IsFirstZero};
-ghost use Rattle.cache_model.specs.declared.slot.TheConstants.{SLOT_WORDS};
 ghost use Rattle.file_pmem.specs.File.{AgreesAt, IsZeroFile, StaysFile, SyncsFile};
 ghost use Rattle.file_pmem.specs.Mirror.{file_device, file_shown, IsMirroring, IsMirror, MarksFit};
 ghost use Rattle.file_pmem.specs.Mirror.{IsFileCovered, IsSynced, shown, is_mirrored, has_refused};
@@ -238,9 +237,9 @@ impl<L: Lines + Drop, F: LineFile + Drop> PmemWork for FilePmem<L, F> {
     }
 
     #[tactic(auto, using(crate::proofs::Mirroring::mirroring_along))]
-    fn first_zero(&mut self, word: u64, count: u64) -> Option<u64> {
+    fn first_zero(&mut self, word: u64, apart: u64, count: u64) -> Option<u64> {
         if self.switch.on {
-            Some(self.lines.first_zero(word, count))
+            Some(self.lines.first_zero(word, apart, count))
         } else {
             None
         }

@@ -10,7 +10,8 @@ use Rattle.std.proofs.lemmas.Int.{to_z-of_z}
 use Rattle.std.proofs.lemmas.List.{length-replicate}
 use Rattle.std.proofs.lemmas.Bool.{cases_eq, lt-ltb}
 use Rattle.cache_model.specs.Cache.{Words, versions, view, blank}
-use Rattle.cache_model.specs.Collapse.{picked, kept, left_cache, is_good_pick, collapse}
+use Rattle.cache_model.specs.Collapse.{picked, kept, left_cache, is_good_pick, version_count}
+use Rattle.cache_model.specs.Collapse.{collapse}
 use Rattle.cache_model.specs.Lists.{version_words}
 use Rattle.cache_model.specs.declared.choice.Rest.{Rest}
 use Rattle.cache_model.specs.declared.choice.Rest.TheVariants.{Old, New}
@@ -135,6 +136,13 @@ has_good s m p n same lt is =
     ∙ ap (λ (z : Sparse). length (versions (sparse_cache z p.line))) same)
     ∙ ap (λ (b : Bool). b && nat_lt p.version (length (versions (sparse_cache m p.line))))
     (sym (lt-ltb p.line m.count lt))
+
+pub count_is : (s : Sparse) (l : ℕ) → l < s.count
+    → count_of (kept_at s.kept l) ≡ version_count (sparse_memory s) l
+unfolding sparse_cache
+count_is s l lt =
+    sym (line_versions s.words (kept_at s.kept l) l)
+    ∙ sym (ap (λ (b : Bool). cond b (length (versions (sparse_cache s l))) 0) (lt-ltb l s.count lt))
 
 view_here : (s : Sparse) (p : ℕ) (o : Option Older) → (sparse_line s.words o (p / 8)).newest p
     ≡ get_or s.words p (pos 0)

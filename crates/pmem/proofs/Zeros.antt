@@ -3,11 +3,13 @@ use Rattle.std.proofs.Common.{◌≡◌, ◌≢◌, ◌⊎◌, inl, inr, ⊎_eli
 use Rattle.std.proofs.Common.{◌≤◌, Bool, true, false, List, [], ◌∷◌, ◌++◌, length, set, get_or, ℤ}
 use Rattle.std.proofs.Common.{pos, refl, sym, ap, ◌∙◌, arith}
 use Rattle.std.proofs.lemmas.Bool.{cases_eq}
+use Rattle.std.proofs.Math.Nat.{mul-le-mul_left}
 use Rattle.std.proofs.lemmas.List.{get_or-set_same, get_or-set_other, get_or_default}
 use Rattle.cache_model.specs.Cache.{view}
 use Rattle.pmem.specs.Sparse.{Sparse, sparse_cache, IsTidySparse}
 use Rattle.pmem.specs.Zeros.{IsFirstZero}
-use Rattle.pmem.specs.inside.Zeros.{AreFull, AreFullChunks}
+use Rattle.pmem.specs.declared.full_words.TheConstants.{CHUNK, AREA}
+use Rattle.pmem.specs.inside.Zeros.{AreFull, AreFullParts}
 use Rattle.pmem.proofs.Cuts.{view_sparse}
 
 -- flags after one was set or taken away
@@ -56,16 +58,6 @@ flag_past flags c k past is =
     let lt = flag_within flags k is in
     (λ same. absurd (let nothing : ⊥ = omega arith in nothing), is)
 
--- nothing is known at first
-
-pub known_none : (words : List ℤ) (w : ℕ) (flags : List Bool) → flags ≡ []
-    → AreFull words w 0 × AreFullChunks words w flags
-known_none words w flags none = (
-  λ i lt. absurd (let nothing : ⊥ = omega arith in nothing),
-  λ i flag. absurd (let no_flag : false ≡ true =
-      sym (ap (λ (fs : List Bool). get_or fs (i / 128) false) none) ∙ flag in cc),
-)
-
 -- a store of another word, or of another value than 0
 
 stays : (words : List ℤ) (w p : ℕ) (x : ℤ) → w < length words → get_or words p (pos 0) ≢ pos 0
@@ -76,27 +68,68 @@ stays words w p x lt full ok e = ⊎_elim
     (λ (other : p ≢ w). full (sym (get_or-set_other words w p x (pos 0) other) ∙ e))
     (cases_eq p w)
 
-pub known_stored : (words : List ℤ) (f n : ℕ) (flags : List Bool) (w : ℕ) (x : ℤ)
-    → ((i : ℕ) → f + 16 * i ≡ w → x ≢ pos 0) → w < length words
-    → AreFull words f n × AreFullChunks words f flags
-    → AreFull (set words w x) f n × AreFullChunks (set words w x) f flags
-known_stored words f n flags w x ok lt known = (
-  λ i less. stays words w (f + 16 * i) x lt (known.0 i less) (ok i),
-  λ i flag. stays words w (f + 16 * i) x lt (known.1 i flag) (ok i),
+pub known_stored : (words : List ℤ) (f d n : ℕ) (chunks areas : List Bool) (w : ℕ) (x : ℤ)
+    → ((i : ℕ) → f + d * i ≡ w → x ≢ pos 0) → w < length words
+    → AreFull words f d n × AreFullParts CHUNK words f d chunks × AreFullParts AREA words f d areas
+    → AreFull (set words w x) f d n × AreFullParts CHUNK (set words w x) f d chunks
+    × AreFullParts AREA (set words w x) f d areas
+known_stored words f d n chunks areas w x ok lt known = (
+  λ i less. stays words w (f + d * i) x lt (known.0 i less) (ok i),
+  λ i flag. stays words w (f + d * i) x lt (known.1 i flag) (ok i),
+  λ i flag. stays words w (f + d * i) x lt (known.2 i flag) (ok i),
 )
 
+-- a store of a word that is one of the searched ones: what is forgotten has its number
+
+other_word : (f d i n w : ℕ) → 1 ≤ d → f + d * n ≡ w → i ≢ n → f + d * i ≢ w
+other_word f d i n w some at other e =
+    let before : i < n → ⊥ = λ less.
+    let more : d * suc i ≤ d * n = mul-le-mul_left d less in omega arith in
+    let after : n < i → ⊥ = λ less.
+    let more : d * suc n ≤ d * i = mul-le-mul_left d less in omega arith in
+    other (omega (arith, before, after))
+
+kept_full : (words : List ℤ) (f d i n w : ℕ) (x : ℤ) → 1 ≤ d → f + d * n ≡ w → i ≢ n
+    → get_or words (f + d * i) (pos 0) ≢ pos 0
+    → get_or (set words w x) (f + d * i) (pos 0) ≢ pos 0
+kept_full words f d i n w x some at other full e = full (sym (get_or-set_other words w (f + d * i) x
+    (pos 0) (other_word f d i n w some at other)) ∙ e)
+
+pub known_cleared : (words : List ℤ) (f d n count m : ℕ) (chunks areas chunks' areas' : List Bool)
+    (w : ℕ) (x : ℤ) → 1 ≤ d → f + d * n ≡ w → m ≤ count → m ≤ n
+    → ((k : ℕ) → get_or chunks' k false ≡ true
+    → (k ≢ n / CHUNK) × (get_or chunks k false ≡ true))
+    → ((k : ℕ) → get_or areas' k false ≡ true → (k ≢ n / AREA) × (get_or areas k false ≡ true))
+    → AreFull words f d count × AreFullParts CHUNK words f d chunks
+    × AreFullParts AREA words f d areas
+    → AreFull (set words w x) f d m × AreFullParts CHUNK (set words w x) f d chunks'
+    × AreFullParts AREA (set words w x) f d areas'
+known_cleared words f d n count m chunks areas chunks' areas' w x some at few before in_chunk
+    in_area known = (
+      λ i less. kept_full words f d i n w x some at (λ same. omega (arith, less, before, same))
+          (known.0 i (omega (arith, less, few))),
+      λ i flag. kept_full words f d i n w x some at
+          (λ same. (in_chunk (i / CHUNK) flag).0 (ap (λ (j : ℕ). j / CHUNK) same))
+          (known.1 i (in_chunk (i / CHUNK) flag).1),
+      λ i flag. kept_full words f d i n w x some at
+          (λ same. (in_area (i / AREA) flag).0 (ap (λ (j : ℕ). j / AREA) same))
+          (known.2 i (in_area (i / AREA) flag).1),
+    )
+
 -- the first 0 among the newest words is the first in the view
-pub first_in_view : (s m : Sparse) (words : List ℤ) (w k n : ℕ) → s ≡ m → IsTidySparse s
-    → words ≡ s.words → w + 16 * k ≤ 8 * m.count
-    → IsFirstZero (λ p. get_or words p (pos 0)) w k n → IsFirstZero (view (sparse_cache m)) w k n
-first_in_view s m words w k n same tidy is inside first =
+pub first_in_view : (s m : Sparse) (words : List ℤ) (w d k n : ℕ) → s ≡ m → IsTidySparse s
+    → words ≡ s.words → 1 ≤ d → w + d * k ≤ 8 * m.count
+    → IsFirstZero (λ p. get_or words p (pos 0)) w d k n
+    → IsFirstZero (view (sparse_cache m)) w d k n
+first_in_view s m words w d k n same tidy is some inside first =
     let lines : s.count ≡ m.count = ap (λ (z : Sparse). z.count) same in
-    let here : (i : ℕ) → i < k → get_or words (w + 16 * i) (pos 0)
-    ≡ view (sparse_cache m) (w + 16 * i) = λ i less.
-    ap (λ (ys : List ℤ). get_or ys (w + 16 * i) (pos 0)) is
-    ∙ view_sparse s m (w + 16 * i) (get_or s.words (w + 16 * i) (pos 0)) same tidy (omega arith)
-    (get_or_default s.words (w + 16 * i) (pos 0) (get_or s.words (w + 16 * i) (pos 0))
-    (omega (arith, tidy.words, lines, inside, less))) in
+    let here : (i : ℕ) → i < k → get_or words (w + d * i) (pos 0)
+    ≡ view (sparse_cache m) (w + d * i) = λ i less.
+    let more : d * suc i ≤ d * k = mul-le-mul_left d less in
+    ap (λ (ys : List ℤ). get_or ys (w + d * i) (pos 0)) is
+    ∙ view_sparse s m (w + d * i) (get_or s.words (w + d * i) (pos 0)) same tidy (omega arith)
+    (get_or_default s.words (w + d * i) (pos 0) (get_or s.words (w + d * i) (pos 0))
+    (omega (arith, tidy.words, lines, inside, more, some))) in
     record {
       few = first.few;
       before = λ i less e. first.before i less (here i (omega (arith, first.few)) ∙ e);

@@ -2,3 +2,4 @@
 pub mod Sparse
 pub mod Placed
 pub mod Zeros
+pub mod Known

@@ -5,11 +5,10 @@ ghost use Rattle.std.specs.Prelude.{◌≡◌, ◌*◌, ◌<◌, ◌≤◌, true
 ghost use Rattle.std.specs.Prelude.{IfSome, OnOk, OnErr, IfErr, ◌+◌, ◌^◌};
 ghost use Rattle.cache_model.specs.Cache.{view};
 ghost use Rattle.cache_model.specs.Event.{Store, Flush, Fence};
-ghost use Rattle.cache_model.specs.Collapse.{bad, Rises};
+ghost use Rattle.cache_model.specs.Collapse.{bad, version_count, Rises};
 ghost use Rattle.pmem.specs.Device.{Device, memory_of, blanked, powered, with_left, with_armed};
 ghost use Rattle.pmem.specs.Played.{Answered, Stored};
 ghost use Rattle.pmem.specs.Zeros.{IsFirstZero};
-ghost use Rattle.cache_model.specs.declared.slot.TheConstants.{SLOT_WORDS};
 
 use crate::answer::{Event, StoreEvent};
 use cache_model::{BadPick, Choice};
@@ -31,13 +30,15 @@ pub trait PmemWork {
         ensures on { IsSome result → (device self.now).on ≡ true }
         ensures off { IsNone result → (device self.now).on ≡ false };
 
-    /// How many of `count` words, two lines apart from `word` on, come before the first that is 0,
-    /// or `None` while the device is off. A search is no event. The device may remember what it
-    /// saw, so that later searches are shorter.
-    fn first_zero(&mut self, word: u64, count: u64) -> Option<u64>
-        requires inside { word + SLOT_WORDS * count ≤ 8 * (device self.old).lines }
-        requires fits { word + SLOT_WORDS * count < 2 ^ 64 }
-        ensures value { IfSome result (IsFirstZero (view (device self.old).cache) word count) }
+    /// How many of `count` words that are so far apart, from `word` on, come before the first that
+    /// is 0, or `None` while the device is off. A search is no event. The device may remember what
+    /// it saw, so that later searches are shorter.
+    fn first_zero(&mut self, word: u64, apart: u64, count: u64) -> Option<u64>
+        requires apart { 1 ≤ apart }
+        requires inside { word + apart * count ≤ 8 * (device self.old).lines }
+        requires fits { word + apart * count < 2 ^ 64 }
+        ensures value { IfSome result
+            (IsFirstZero (view (device self.old).cache) word apart count) }
         ensures on { IsSome result → (device self.old).on ≡ true }
         ensures off { IsNone result → (device self.old).on ≡ false }
         ensures same { device self.new ≡ device self.old };
@@ -78,6 +79,8 @@ pub trait Pmem: PmemWork {
             (Self.device self.old)) }
         ensures bad { IfErr result (λ pick. bad (memory_of (Self.device self.old)) choice.now.picks
             ≡ Some pick.line) }
+        ensures versions { IfErr result (λ pick. pick.versions
+            ≡ version_count (memory_of (Self.device self.old)) pick.line) }
         ensures refused { OnErr result (Self.device self.new ≡ Self.device self.old) };
 
     /// Arms a power cut: after `k` more events are done, the device goes off at the next one.

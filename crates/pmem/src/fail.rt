@@ -4,7 +4,7 @@ ghost use Rattle.std.specs.Prelude.{◌≡◌, ◌*◌, ◌<◌, ◌+◌, ◌-�
 ghost use Rattle.std.specs.Prelude.{None, [], IsSome, IsNone, IfSome, OnOk, OnErr, IfErr};
 ghost use Rattle.cache_model.specs.Cache.{blank, view};
 ghost use Rattle.cache_model.specs.Event.{Store, Flush, Fence};
-ghost use Rattle.cache_model.specs.Collapse.{bad, Rises};
+ghost use Rattle.cache_model.specs.Collapse.{bad, version_count, Rises};
 ghost use Rattle.pmem.specs.Device.{Device, memory_of, blanked, powered, with_left, with_armed};
 ghost use Rattle.pmem.specs.Played.{Answered, Stored};
 ghost use Rattle.pmem.specs.Switch.{told_device, fresh_switch};
@@ -62,11 +62,11 @@ impl PmemWork for FailPmem {
         Some(self.cache.load(word))
     }
 
-    fn first_zero(&mut self, word: u64, count: u64) -> Option<u64> {
+    fn first_zero(&mut self, word: u64, apart: u64, count: u64) -> Option<u64> {
         if !self.switch.on {
             return None;
         }
-        Some(first_zero_of(&self.cache, word, count))
+        Some(first_zero_of(&self.cache, word, apart, count))
     }
 
     fn store(&mut self, word: u64, value: i64) -> StoreEvent
@@ -156,6 +156,8 @@ impl Pmem for FailPmem {
             (fail_device self.old)) }
         ensures bad { IfErr result (λ pick. bad (memory_of (fail_device self.old)) choice.now.picks
             ≡ Some pick.line) }
+        ensures versions { IfErr result (λ pick. pick.versions
+            ≡ version_count (memory_of (fail_device self.old)) pick.line) }
         ensures refused { OnErr result (fail_device self.new ≡ fail_device self.old) }
         ensures armed { self.new.switch.armed ≡ self.old.switch.armed }
         ensures number { (self.new.number ≡ self.old.number) × (self.new.at ≡ self.old.at) }

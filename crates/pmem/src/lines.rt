@@ -5,11 +5,11 @@ ghost use Rattle.std.specs.Prelude.{OnErr, IfOk, IfErr};
 ghost use Rattle.cache_model.specs.Cache.{Memory, blank, view};
 ghost use Rattle.cache_model.specs.Event.{Store, Flush, Fence};
 ghost use Rattle.cache_model.specs.Play.{after};
-ghost use Rattle.cache_model.specs.Collapse.{bad, collapse, Rises};
+ghost use Rattle.cache_model.specs.Collapse.{bad, version_count, collapse, Rises};
 ghost use Rattle.cache_model.specs.Lists.{memory_from};
 ghost use Rattle.pmem.specs.Zeros.{IsFirstZero};
 
-use cache_model::{BadPick, Cache, Choice, SLOT_WORDS};
+use cache_model::{BadPick, Cache, Choice};
 use std::alloc::{AllocError, Global};
 
 /// Lines with all their versions and marks. Each call does to them what the cache model says.
@@ -33,11 +33,13 @@ pub trait Lines {
         requires { word < 8 * (memory self.now).lines }
         ensures { result ≡ view (memory self.now).cache word };
 
-    /// How many of `count` words, two lines apart from `word` on, come before the first that is 0.
-    fn first_zero(&mut self, word: u64, count: u64) -> u64
-        requires inside { word + SLOT_WORDS * count ≤ 8 * (memory self.old).lines }
-        requires fits { word + SLOT_WORDS * count < 2 ^ 64 }
-        ensures value { IsFirstZero (view (memory self.old).cache) word count result }
+    /// How many of `count` words that are so far apart, from `word` on, come before the first that
+    /// is 0.
+    fn first_zero(&mut self, word: u64, apart: u64, count: u64) -> u64
+        requires apart { 1 ≤ apart }
+        requires inside { word + apart * count ≤ 8 * (memory self.old).lines }
+        requires fits { word + apart * count < 2 ^ 64 }
+        ensures value { IsFirstZero (view (memory self.old).cache) word apart count result }
         ensures same { memory self.new ≡ memory self.old };
 
     /// Appends a version to the word's line.
@@ -63,17 +65,21 @@ pub trait Lines {
         ensures done { OnOk result (memory self.new ≡ collapse (memory self.old) choice.now) }
         ensures bad { IfErr result (λ pick. bad (memory self.old) choice.now.picks
             ≡ Some pick.line) }
+        ensures versions { IfErr result (λ pick. pick.versions
+            ≡ version_count (memory self.old) pick.line) }
         ensures refused { OnErr result (memory self.new ≡ memory self.old) };
 }
 
-/// How many of `count` words, two lines apart from `word` on, come before the first that is 0.
-pub fn first_zero_of(cache: &Cache, word: u64, count: u64) -> u64
-    requires inside { word + SLOT_WORDS * count ≤ 8 * length cache.now }
-    requires fits { word + SLOT_WORDS * count < 2 ^ 64 }
-    ensures { IsFirstZero (view (memory_from cache.now).cache) word count result }
+/// How many of `count` words that are so far apart, from `word` on, come before the first that is
+/// 0.
+pub fn first_zero_of(cache: &Cache, word: u64, apart: u64, count: u64) -> u64
+    requires apart { 1 ≤ apart }
+    requires inside { word + apart * count ≤ 8 * length cache.now }
+    requires fits { word + apart * count < 2 ^ 64 }
+    ensures { IsFirstZero (view (memory_from cache.now).cache) word apart count result }
 {
     for n in 0..count {
-        if cache.load(word + SLOT_WORDS * n) == 0 {
+        if cache.load(word + apart * n) == 0 {
             return n;
         }
     }
@@ -100,8 +106,8 @@ impl Lines for Cache {
         Cache::load(self, word)
     }
 
-    fn first_zero(&mut self, word: u64, count: u64) -> u64 {
-        first_zero_of(self, word, count)
+    fn first_zero(&mut self, word: u64, apart: u64, count: u64) -> u64 {
+        first_zero_of(self, word, apart, count)
     }
 
     fn store(&mut self, word: u64, value: i64) -> Result<(), AllocError> {

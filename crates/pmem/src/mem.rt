@@ -82,9 +82,9 @@ impl<L: Lines + Drop> PmemWork for MemPmem<L> {
         Some(self.lines.load(word))
     }
 
-    fn first_zero(&mut self, word: u64, count: u64) -> Option<u64> {
+    fn first_zero(&mut self, word: u64, apart: u64, count: u64) -> Option<u64> {
         if self.switch.on {
-            Some(self.lines.first_zero(word, count))
+            Some(self.lines.first_zero(word, apart, count))
         } else {
             None
         }

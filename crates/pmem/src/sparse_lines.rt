@@ -9,7 +9,8 @@ ghost use Rattle.std.specs.Option.{option_map};
 ghost use Rattle.cache_model.specs.Event.{Store, Flush, Fence};
 ghost use Rattle.cache_model.specs.Play.{after};
 ghost use Rattle.cache_model.specs.Cache.{blank, view};
-ghost use Rattle.cache_model.specs.Collapse.{picked, kept, is_good_pick, bad, collapse};
+ghost use Rattle.cache_model.specs.Collapse.{picked, kept, is_good_pick, version_count, bad};
+ghost use Rattle.cache_model.specs.Collapse.{collapse};
 ghost use Rattle.pmem.specs.Kept.{more_lines};
 ghost use Rattle.pmem.specs.Sparse.{Older, sparse_line, sparse_cache, sparse_memory, newest_of};
 ghost use Rattle.pmem.specs.Sparse.{kept_at};
@@ -43,7 +44,7 @@ impl Model for SparseLines {
     ghost use Rattle.std.specs.Prelude.{◌≡◌, ◌⊎◌, true};
     ghost use Rattle.pmem.specs.Sparse.{Sparse, IsTidySparse};
     ghost use Rattle.pmem.specs.inside.Sparse.{AreListed};
-    ghost use Rattle.pmem.specs.inside.Zeros.{IsKnown};
+    ghost use Rattle.pmem.specs.inside.Known.{IsKnown};
 
     ghost Value = { Sparse };
 
@@ -78,6 +79,16 @@ impl SparseLines {
             return false;
         }
         pick.version < self.versions(pick.line)
+    }
+
+    /// The number of versions of a line, or 0 if there is no such line.
+    fn version_count(&self, line: u64) -> u64
+        ensures { result ≡ version_count (sparse_memory self.now) line }
+    {
+        if line >= self.count() {
+            return 0;
+        }
+        self.versions(line)
     }
 
     /// The line of the first pick whose line or version doesn't exist.
@@ -131,8 +142,8 @@ impl Lines for SparseLines {
         self.words[word as usize]
     }
 
-    fn first_zero(&mut self, word: u64, count: u64) -> u64 {
-        self.full.first_zero(&self.words, word, count)
+    fn first_zero(&mut self, word: u64, apart: u64, count: u64) -> u64 {
+        self.full.first_zero(&self.words, word, apart, count)
     }
 
     fn store(&mut self, word: u64, value: i64) -> Result<(), AllocError> {
@@ -163,10 +174,11 @@ impl Lines for SparseLines {
     fn collapse(&mut self, choice: &Choice) -> Result<(), BadPick> {
         let picks = choice.picks.as_slice();
         if let Some(line) = self.bad_pick(picks) {
-            return Err(BadPick { line });
+            let versions = self.version_count(line);
+            return Err(BadPick { line, versions });
         }
         leave_all(&mut self.words, &mut self.kept, choice.rest, picks);
-        self.full.start_at(0);
+        self.full.start_at(0, 1);
         Ok(())
     }
 }

@@ -1,14 +1,17 @@
 -- If no word breaks a rule of content, the image holds what a recovery needs.
 use Rattle.std.proofs.Common.{◌≡◌, ◌≢◌, ⊎_elim, ℕ, zero, suc, ◌+◌, ◌<◌, ◌≤◌, ◌&&◌, not}
-use Rattle.std.proofs.Common.{nat_le, nat_lt, Bool, true, false, ℤ, pos, negsuc, ◌+ℤ◌, refl, sym}
+use Rattle.std.proofs.Common.{◌-◌, ◌*◌, ◌%◌, nat_le, nat_lt, Bool, true, false, ℤ, pos, negsuc}
+use Rattle.std.proofs.Common.{◌+ℤ◌, refl, sym}
 use Rattle.std.proofs.Common.{ap, ◌∙◌, subst, arith}
 use Rattle.std.specs.Prelude.{int_le}
+use Rattle.std.proofs.Math.Nat.{mul-mod_right}
 use Rattle.std.proofs.lemmas.Bool.{cases_eq, cases_lt, and_parts, not-false, and_right, and_left}
 use Rattle.std.proofs.lemmas.Bool.Decides.{Decides-int_eq, nat_tests}
 use Rattle.cache_model.specs.Cache.{Words}
 use Rattle.pool_layout.specs.declared.limits.Sizes.{Sizes}
 use Rattle.pool_layout.specs.declared.places.Layout.{Layout}
-use Rattle.pool_layout.specs.Sizes.{heap_words, slot_word}
+use Rattle.pool_layout.specs.Sizes.{root_lines, heap_words, slot_words, slot_word}
+use Rattle.pool_layout.proofs.Slots.{slot_within}
 use Rattle.pool_layout.specs.Image.{is_next, IsUpTo}
 use Rattle.pool_layout.specs.Opens.{IsBelow}
 use Rattle.pool_layout.specs.Content.{is_within, is_valid, are_valid, is_stamp, in_heap}
@@ -40,18 +43,25 @@ below_is s (pos w) e =
 below_is s (negsuc n) e = absurd (cc)
 
 -- a slot's first word is a header
-pub slot_header : (s : Sizes) (slot : ℕ) → 1 ≤ slot → slot ≤ s.slots
-    → is_header s (slot_word s slot) ≡ true
-slot_header s slot low high = grind (arith, nat_tests)
+pub slot_header : (s : Sizes) (slot : ℕ) → is_header s (slot_word s slot) ≡ true
+slot_header s slot =
+    let e : slot_word s slot - 8 * root_lines s ≡ slot_words s * (slot - 1) = omega arith in
+    let a : (slot_word s slot - 8 * root_lines s) % slot_words s ≡ 0 =
+    ap (λ (n : ℕ). n % slot_words s) e ∙ mul-mod_right (slot_words s) (slot - 1) in
+    let b : nat_le (8 * root_lines s) (slot_word s slot) ≡ true = grind (arith, nat_tests) in
+    rw b (grind (arith, nat_tests))
 
 pub slot_inside : (s : Sizes) (slot : ℕ) → 1 ≤ slot → slot ≤ s.slots
     → slot_word s slot < heap_words s
-slot_inside s slot low high = omega arith
+slot_inside s slot low high =
+    let a : slot_words s * (slot - 1) + slot_words s ≤ slot_words s * s.slots =
+    slot_within (slot_words s) s.slots slot low high in
+    let b : 2 ≤ s.slot_lines = s.slot_fits.0 in omega arith
 
 pub slot_named : (s : Sizes) (slot : ℕ) (x : ℤ) → 1 ≤ slot → slot ≤ s.slots
     → x ≡ pos (slot_word s slot) → names_header s x ≡ true
 slot_named s slot x low high is =
-    let a : is_header s (slot_word s slot) ≡ true = slot_header s slot low high in
+    let a : is_header s (slot_word s slot) ≡ true = slot_header s slot in
     let b : slot_word s slot < heap_words s = slot_inside s slot low high in
     let c : (nat_lt (slot_word s slot) (heap_words s) && is_header s (slot_word s slot)) ≡ true =
     rw a (grind (arith, nat_tests)) in

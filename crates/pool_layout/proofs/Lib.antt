@@ -1,4 +1,5 @@
 pub mod Words
+pub mod Slots
 pub mod Apart
 pub mod Undone
 pub mod Records

@@ -68,7 +68,7 @@ headers_fit r image keeps = λ slot low high.
     (and_rest (is_header r.layout.sizes (slot_word r.layout.sizes slot))
     (not (is_within 0 r.structs (image (at r.layout (Heap (slot_word r.layout.sizes slot))))))
     (keeps (Heap (slot_word r.layout.sizes slot)) (slot_inside r.layout.sizes slot low high))
-    (slot_header r.layout.sizes slot low high))
+    (slot_header r.layout.sizes slot))
 
 -- sealed images
 

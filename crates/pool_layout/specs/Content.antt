@@ -12,10 +12,9 @@ use Rattle.pool_layout.specs.declared.places.Place.TheVariants.{Done, Attempt, M
 use Rattle.pool_layout.specs.declared.places.Place.TheVariants.{RecordWord, RecordOld, RecordStamp}
 use Rattle.pool_layout.specs.declared.places.Place.TheVariants.{Heap}
 use Rattle.pool_layout.specs.declared.rules.Rules.{Rules}
-use Rattle.pool_layout.specs.Sizes.{root_lines, heap_words}
+use Rattle.pool_layout.specs.Sizes.{root_lines, slot_words, heap_words}
 use Rattle.pool_layout.specs.Places.{at, IsPlace}
 use Rattle.pool_layout.specs.Image.{is_next, is_sealed_in}
-use Rattle.cache_model.specs.declared.slot.TheConstants.{SLOT_WORDS}
 
 -- the word is a number from low to high
 abbrev pub is_within : ℕ → ℕ → ℤ → Bool
@@ -40,7 +39,7 @@ in_heap s (pos w) = nat_lt w (heap_words s)
 in_heap s (negsuc n) = false
 
 abbrev pub is_header : Sizes → ℕ → Bool
-is_header s w = nat_le (8 * root_lines s) w && ((w - 8 * root_lines s) % SLOT_WORDS == 0)
+is_header s w = nat_le (8 * root_lines s) w && ((w - 8 * root_lines s) % slot_words s == 0)
 
 -- the word is the heap address of a header
 abbrev pub names_header : Sizes → ℤ → Bool

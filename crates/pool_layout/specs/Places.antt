@@ -14,7 +14,8 @@ use Rattle.pool_layout.specs.declared.places.Place.TheVariants.{RecordOld, Recor
 use Rattle.pool_layout.specs.declared.places.Place.TheVariants.{Heap}
 use Rattle.pool_layout.specs.declared.places.HeapPlace.{HeapPlace}
 use Rattle.pool_layout.specs.declared.places.HeapPlace.TheVariants.{Root, Header, Field}
-use Rattle.pool_layout.specs.Sizes.{root_lines, pool_lines, heap_start, heap_words, slot_word}
+use Rattle.pool_layout.specs.Sizes.{root_lines, pool_lines, heap_start, heap_words, slot_words}
+use Rattle.pool_layout.specs.Sizes.{slot_word}
 
 -- the seal is the last word of the argument record, which begins at line 3
 abbrev pub seal_word : Version → ℕ
@@ -66,7 +67,7 @@ IsPlace l (Heap w) = w < heap_words l.sizes
 IsPlace l q = Unit {0}
 
 -- the words of the heap: the root's lines, in which the words after the last root word are unread,
--- and sixteen words for each slot
+-- and the words of each slot
 abbrev pub heap_at : Sizes → HeapPlace → ℕ
 heap_at s (Root k) = k
 heap_at s (Header slot) = slot_word s slot
@@ -75,7 +76,7 @@ heap_at s (Field slot k) = slot_word s slot + 1 + k
 abbrev pub IsHeapPlace : Sizes → HeapPlace → Type 0
 IsHeapPlace s (Root k) = k < 8 * root_lines s
 IsHeapPlace s (Header slot) = (1 ≤ slot) × (slot ≤ s.slots)
-IsHeapPlace s (Field slot k) = (1 ≤ slot) × (slot ≤ s.slots) × (k < 15)
+IsHeapPlace s (Field slot k) = (1 ≤ slot) × (slot ≤ s.slots) × (k + 1 < slot_words s)
 
 -- different places are different words
 abbrev pub PlacesApart : Type 0

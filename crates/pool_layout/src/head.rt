@@ -123,7 +123,7 @@ fn sizes_fault(bytes: &[u8], wanted: &Wanted) -> Option<ImageFault>
 fn size_fault(bytes: &[u8], k: u64, wanted: u64) -> Option<ImageFault>
     requires line { k < 6 }
     requires whole { 48 ≤ length bytes.now }
-    requires small { wanted ≤ 1000000 }
+    requires small { wanted ≤ 1048576 }
     ensures { result ≡ fault_of.size_fault bytes.now k wanted }
 {
     let found = word_in(bytes, k);
@@ -175,7 +175,7 @@ pub fn digest_in(bytes: &[u8]) -> [i64; 4]
 fn needed(bytes: &[u8], wanted: &Wanted) -> u64
     ensures value { result ≡ fault_of.needed wanted.now bytes.now }
     ensures least { 640 ≤ result + 128 }
-    ensures most { result ≤ 8655104 }
+    ensures most { result ≤ 4299686272 }
 {
     8 * rules_for(bytes, wanted).layout.words()
 }

@@ -4,13 +4,12 @@ ghost use Rattle.std.specs.Prelude.{◌≡◌, ◌≤◌};
 ghost use Rattle.pool_layout.specs.Sizes as sizes_of;
 
 use crate::limits::Sizes;
-use cache_model::SLOT_WORDS;
 
 /// The number of lines, of eight words each, of the pool.
 pub fn pool_lines(sizes: &Sizes) -> u64
     ensures { result ≡ sizes_of.pool_lines sizes.now }
 {
-    6 + sizes.records() + root_lines(sizes) + 2 * sizes.slots()
+    6 + sizes.records() + root_lines(sizes) + sizes.slot_lines() * sizes.slots()
 }
 
 /// The pool's word where the heap begins.
@@ -20,11 +19,11 @@ pub fn heap_start(sizes: &Sizes) -> u64
     8 * (6 + sizes.records())
 }
 
-/// The number of heap words: those of the root's lines, and sixteen for each slot.
+/// The number of heap words: those of the root's lines, and those of each slot.
 pub fn heap_words(sizes: &Sizes) -> u64
     ensures { result ≡ sizes_of.heap_words sizes.now }
 {
-    8 * root_lines(sizes) + SLOT_WORDS * sizes.slots()
+    8 * root_lines(sizes) + sizes.slot_words() * sizes.slots()
 }
 
 /// The heap word where a slot begins, which is its header. Slots are counted from 1.
@@ -33,12 +32,12 @@ pub fn slot_word(sizes: &Sizes, slot: u64) -> u64
     requires last { slot ≤ sizes.now.slots }
     ensures { result ≡ sizes_of.slot_word sizes.now slot }
 {
-    8 * root_lines(sizes) + SLOT_WORDS * (slot - 1)
+    8 * root_lines(sizes) + sizes.slot_words() * (slot - 1)
 }
 
 fn root_lines(sizes: &Sizes) -> u64
     ensures value { result ≡ sizes_of.root_lines sizes.now }
-    ensures few { result ≤ 64 }
+    ensures few { result ≤ 8192 }
 {
     sizes.root_words().div_ceil(8)
 }

@@ -12,7 +12,6 @@ use crate::bytes::word_in;
 use crate::limits::{NUMBER_LIMIT, Sizes};
 use crate::measures::{heap_words, slot_word};
 use crate::places::{Layout, Place, Version};
-use cache_model::SLOT_WORDS;
 
 /// What the rules of content depend on: the layout, the number of transactions of the program, and
 /// the number of its structs.
@@ -221,5 +220,5 @@ fn is_header(sizes: &Sizes, w: u64) -> bool
     ensures { result ≡ content.is_header sizes.now w }
 {
     let slots = slot_word(sizes, 1);
-    w >= slots && (w - slots) % SLOT_WORDS == 0
+    w >= slots && (w - slots) % sizes.slot_words() == 0
 }

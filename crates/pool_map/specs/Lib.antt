@@ -4,5 +4,6 @@ pub mod PoolFits
 pub mod PoolMap
 pub mod PoolText
 pub mod Trap
+pub mod Width
 pub mod Words
 pub mod inside

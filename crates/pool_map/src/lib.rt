@@ -6,19 +6,26 @@
 mod checks;
 mod fit;
 mod law;
+mod limits;
 mod object;
 mod pool;
 mod shapes;
 mod show;
 mod trap;
+mod width;
 mod word;
 
 pub use checks::element_in;
 pub use fit::fits;
 pub use law::laws;
+pub use limits::{
+    ARRAY_LENGTH, LEAST_SLOT, MOST_SLOT, OBJECT_WORDS, POINTED_ROOT, RECORDS, ROOT_WORDS, SLOTS,
+    TICKS,
+};
 pub use object::Object;
 pub use pool::Pool;
 pub use shapes::{FieldShape, FieldShapes, Shapes, StructShape, StructShapes};
 pub use show::{show_text, word_digits};
 pub use trap::TrapKind;
+pub use width::slot_words;
 pub use word::PoolWord;

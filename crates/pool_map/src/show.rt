@@ -1,6 +1,7 @@
 //! The text of a pool.
 
-ghost use Rattle.std.specs.Prelude.{string_bytes, ◌≡◌, ◌++◌, OnOk, IfOk, length, IfSome, Some, ◌∷◌, [], codes};
+ghost use Rattle.std.specs.Prelude.{string_bytes, ◌≡◌, ◌++◌, OnOk, IfOk, length, IfSome, Some};
+ghost use Rattle.std.specs.Prelude.{◌∷◌, [], codes};
 ghost use Rattle.std.specs.Fmt.{decimal};
 ghost use Rattle.std.specs.List.{AllByRecursion, join_by};
 ghost use Rattle.pool_map.specs.PoolFits.{struct_at, words_of_field, words_of, ObjectFits};

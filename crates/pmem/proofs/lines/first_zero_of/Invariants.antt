@@ -5,4 +5,4 @@ use Rattle.pmem.proofs.lines.first_zero_of.Given as goal
 
 abbrev pub invariant-loop-n : goal.invariant-loop-n
 invariant-loop-n l =
-    (i : ℕ) → i < l.n → view (memory_from l.cache).cache (l.word + 16 * i) ≢ pos 0
+    (i : ℕ) → i < l.n → view (memory_from l.cache).cache (l.word + l.apart * i) ≢ pos 0

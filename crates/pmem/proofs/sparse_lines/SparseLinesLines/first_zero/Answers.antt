@@ -6,6 +6,6 @@ returns-clause-value c = first_in_view (record {
   count = c.self.inside.count;
   words = c.self.inside.words.items;
   kept = c.self.inside.kept;
-}) c.args.self.now c.deref.result.now c.args.word c.args.count c.first_zero.result
-    c.self.view_is c.self.invariant.0 c.deref.ensures.value c.requires.inside
-    c.first_zero.ensures.value
+}) c.args.self.now c.deref.result.now c.args.word c.args.apart c.args.count
+    c.first_zero.result c.self.view_is c.self.invariant.0 c.deref.ensures.value c.requires.apart
+    c.requires.inside c.first_zero.ensures.value
