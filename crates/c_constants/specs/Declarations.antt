@@ -1,6 +1,7 @@
--- Declarations of several names. One begins with a type, an int type or `struct NAME`, right after a
--- `;`, `{` or `}`, and goes on up to the next of these. In it each `,` outside of round and square
--- brackets becomes a `;` and the tokens of the type once more, which keep their places.
+-- Declarations of several names. One begins with a type, an int type or `struct NAME`, right
+-- after a `;`, `{` or `}`, and goes on up to the next of these. In it each `,` outside of round
+-- and square brackets becomes a `;` and the tokens of the type once more, which keep their
+-- places.
 use Rattle.std.specs.Prelude.{ℕ, ◌+◌, ◌-◌, ◌==◌, List, [], ◌∷◌, ◌++◌, Option, Some, None, Result}
 use Rattle.std.specs.Prelude.{slice_get, if◌then◌else◌}
 use Rattle.c_lexer.specs.TokenList.{Tokens}

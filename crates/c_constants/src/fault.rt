@@ -25,7 +25,7 @@ pub enum ConstFault {
     /// A name in an expression that no constant has.
     #[error("line {line}: no constant has this name")]
     UnknownName { line: u64, start: u64 },
-    /// A `/` or `%` whose right side is 0; the place is its own.
+    /// A `/` or `%` whose right side is 0, or a number of over 2^63 - 1; the place is its own.
     #[error("line {line}: the divisor is 0")]
     BadNumber { line: u64, start: u64 },
     /// More than 16,384 tokens are left.

@@ -20,6 +20,7 @@ use Rattle.c_types.specs.Expressions.{Scope}
 use Rattle.c_types.specs.Statements.{inner_scopes, scope_declared, is_declared, type_broken}
 use Rattle.c_types.specs.Statements.{statements_broken}
 use Rattle.c_types.specs.Looking.{storing, looks_broken}
+use Rattle.pool_map.specs.declared.limits.TheConstants.{OBJECT_WORDS, ROOT_WORDS}
 
 abbrev pub length_broken : LengthTree → List Broken
 length_broken l = unless (is_length l.value) l.place
@@ -41,9 +42,9 @@ abbrev pub struct_broken : Tables → ℕ → StructTree → List Broken
 struct_broken t i s = let root = is_first (root_struct t) i in
     unless (is_first (struct_named t s.name.text) i) s.name.place Twice
     ++ (unless (not (nat_eq i 255)) s.name.place (TooBig limit.Structs 256)
-    ++ (unless (root || nat_le (words_of_struct s) 15) s.name.place
+    ++ (unless (root || nat_le (words_of_struct s) OBJECT_WORDS) s.name.place
     (TooBig limit.Struct (words_of_struct s))
-    ++ unless (not root || nat_le (words_of_struct s) 512) s.name.place
+    ++ unless (not root || nat_le (words_of_struct s) ROOT_WORDS) s.name.place
     (TooBig limit.Root (words_of_struct s))))
 
 abbrev pub whole_struct_broken : Tables → ℕ → StructTree → List Broken

@@ -22,7 +22,8 @@ use Rattle.c_types.specs.Broken.{broken_at, unless}
 use Rattle.c_types.specs.Fits.{is_any, is_int, type_takes, comparable, common_type, joins_types}
 use Rattle.c_types.specs.Fits.{applies, unary_type, binary_type, computes_with}
 use Rattle.c_types.specs.Tables.{Tables, index_of, struct_named, function_named, field_named}
-use Rattle.c_types.specs.Tables.{root_struct, is_length, words_at, pointer_type, declared_type}
+use Rattle.c_types.specs.Tables.{root_struct, is_length, words_at, pointed_limit, pointer_type}
+use Rattle.c_types.specs.Tables.{declared_type}
 
 -- the names that a scope declares, in order, and the type of each
 pub record Scope : Type 0 where
@@ -119,7 +120,8 @@ conditional_type c a b =
 -- a type as it is written, in `struct NAME *` or `pm_new(struct NAME)`
 abbrev pub pointer_broken : Tables → Ident → List Broken
 pointer_broken t name = option_map_or
-    (λ i. unless (nat_le (words_at t i) 15) name.place (TooBig limit.Pointer (words_at t i)))
+    (λ i. unless (nat_le (words_at t i) (pointed_limit (root_struct t) i)) name.place
+    (TooBig limit.Pointer (words_at t i)))
     (struct_named t name.text) (broken_at name.place UnknownName)
 
 -- the type of a function's result; the result of a void function is used nowhere

@@ -10,6 +10,7 @@ use Rattle.c_tree.specs.StmtTree as stmt
 use Rattle.c_tree.specs.ItemTree.{ItemTree, Struct, Root, Function, FunctionTree, FieldTree}
 use Rattle.c_types.specs.declared.value_type.ValueType.{ValueType}
 use Rattle.c_types.specs.declared.value_type.ValueType.TheVariants.{Int, Pointer, Null, Any}
+use Rattle.pool_map.specs.declared.limits.TheConstants.{ARRAY_LENGTH, OBJECT_WORDS, POINTED_ROOT}
 
 pub record StructTree : Type 0 where
   pub name : Ident
@@ -81,9 +82,9 @@ is_first found i = option_map_or (nat_eq i) found false
 abbrev pub root_struct : Tables → Option ℕ
 root_struct t = option_and_then (λ r. struct_named t r.name.text) (slice_get t.roots 0)
 
--- an array may have from 1 to 512 elements
+-- an array has an element at least
 abbrev pub is_length : ℤ → Bool
-is_length (pos n) = nat_le 1 n && nat_le n 512
+is_length (pos n) = nat_le 1 n && nat_le n ARRAY_LENGTH
 is_length (negsuc n) = false
 
 -- the words of a field; an array of a refused length counts as one
@@ -112,9 +113,14 @@ words_of_struct s = min (words_from (field_names s) 0 s.fields) (2 ^ 64 - 1)
 abbrev pub words_at : Tables → ℕ → ℕ
 words_at t i = option_map_or words_of_struct (slice_get t.structs i) 0
 
--- a pointer leads to a struct of at most 15 words
+-- the most words of the struct at place i if something points to it, by the place of the root's
+abbrev pub pointed_limit : (root : Option ℕ) → (i : ℕ) → ℕ
+pointed_limit root i = if is_first root i then POINTED_ROOT else OBJECT_WORDS
+
+-- a pointer leads to a struct that isn't too large
 abbrev pub pointer_type : Tables → List ℕ → ValueType
-pointer_type t name = option_map_or (λ i. if nat_le (words_at t i) 15 then Pointer i else Any)
+pointer_type t name = option_map_or (λ i. if nat_le (words_at t i) (pointed_limit (root_struct t) i)
+    then Pointer i else Any)
     (struct_named t name) Any
 
 -- the type of what is declared with a type, which is any if the type is refused
@@ -139,12 +145,13 @@ field_words_before n i (f ∷ fs) =
 abbrev pub field_start : StructTree → ℕ → ℕ
 field_start s n = min (field_words_before n 0 s.fields) (2 ^ 64 - 1)
 
--- how many structs, from place i up to and including place n, have at most 15 words
-abbrev pub numbered_up_to : ℕ → ℕ → List StructTree → ℕ
-numbered_up_to n i [] = 0
-numbered_up_to n i (s ∷ ss) = (if nat_le i n && nat_le (words_of_struct s) 15 then 1 else 0)
-    + numbered_up_to n (i + 1) ss
+-- how many structs, from place i up to and including place n, aren't too large for pointers
+abbrev pub numbered_up_to : (root : Option ℕ) → (n i : ℕ) → List StructTree → ℕ
+numbered_up_to root n i [] = 0
+numbered_up_to root n i (s ∷ ss) =
+    (if nat_le i n && nat_le (words_of_struct s) (pointed_limit root i) then 1 else 0)
+    + numbered_up_to root n (i + 1) ss
 
--- the number of the struct at place n, which must have at most 15 words
+-- the number of the struct at place n, which mustn't be too large
 abbrev pub number_at : Tables → ℕ → ℕ
-number_at t n = numbered_up_to n 0 t.structs
+number_at t n = numbered_up_to (root_struct t) n 0 t.structs

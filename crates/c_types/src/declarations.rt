@@ -20,6 +20,7 @@ use crate::statements::{declare_name, statements, written_type};
 use crate::value_type::ValueType;
 use c_tree::item::{Field, Function, Length, Parameter, RootDecl};
 use c_tree::stmt::TypeName;
+use pool_map::{OBJECT_WORDS, ROOT_WORDS};
 use std::alloc::{AllocError, Global};
 
 /// Keeps the first rule that is broken in the declarations of structs, if it comes before the one
@@ -58,9 +59,9 @@ fn struct_at(program: &Program<'_>, at: u64, layout: &Layout<'_>, least: &mut Op
     let rule = Rule::TooBig(LimitKind::Structs, 256);
     expect(least, !(at == 255), name.place, rule);
     let rule = Rule::TooBig(LimitKind::Struct, words);
-    expect(least, root || words <= 15, name.place, rule);
+    expect(least, root || words <= OBJECT_WORDS, name.place, rule);
     let rule = Rule::TooBig(LimitKind::Root, words);
-    expect(least, !root || words <= 512, name.place, rule);
+    expect(least, !root || words <= ROOT_WORDS, name.place, rule);
 }
 
 #[tactic(auto, using(crate::proofs::Told::told_append))]

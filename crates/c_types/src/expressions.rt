@@ -261,7 +261,7 @@ pub fn pointer_to(program: &Program<'_>, name: &Name, least: &mut Option<Broken>
         Some(at) => {
             let words = program.words_at(at);
             let rule = Rule::TooBig(LimitKind::Pointer, words);
-            expect(least, words <= 15, name.place, rule);
+            expect(least, words <= program.pointed_limit(at), name.place, rule);
         }
     }
     program.pointer_type(name.text.as_str())

@@ -9,13 +9,13 @@ use thiserror::Error;
 /// A limit on what a program declares.
 #[derive(Clone, Copy, Debug, PartialEq, Eq)]
 pub enum LimitKind {
-    /// The length of an array is from 1 to 512.
+    /// The length of an array is from 1 to 65,536.
     Array,
-    /// A struct has at most 15 words; the root's struct may have more.
+    /// A struct has at most 511 words; the root's struct may have more.
     Struct,
-    /// The root's struct has at most 512 words.
+    /// The root's struct has at most 65,536 words.
     Root,
-    /// A pointer leads to a struct of at most 15 words.
+    /// A pointer leads to a struct of at most 511 words, or of 15 if it is the root's.
     Pointer,
     /// There are at most 255 structs.
     Structs,

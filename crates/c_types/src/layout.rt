@@ -9,6 +9,7 @@ ghost use Rattle.c_types.specs.Views.{struct_tree};
 use crate::names::Names;
 use c_tree::expr::Name;
 use c_tree::item::{Field, StructDef};
+use pool_map::ARRAY_LENGTH;
 use std::alloc::{AllocError, Global};
 use std::marker::Model;
 
@@ -179,5 +180,5 @@ fn length_words(length: i64) -> u64
 pub fn is_length(length: i64) -> bool
     ensures { result ≡ tables.is_length length }
 {
-    1 <= length && length <= 512
+    1 <= length && length <= ARRAY_LENGTH as i64
 }

@@ -8,11 +8,12 @@ ghost use Rattle.c_types.specs.Tables as tables;
 ghost use Rattle.c_types.specs.Tables.{StructTree};
 ghost use Rattle.c_types.specs.Views.{root_of, struct_tree, tables_in};
 
-use crate::layout::Layout;
+use crate::layout::{Layout, is_at};
 use crate::names::Names;
 use crate::value_type::ValueType;
 use c_tree::item::{Function, Item, RootDecl};
 use c_tree::stmt::TypeName;
+use pool_map::{OBJECT_WORDS, POINTED_ROOT};
 use std::alloc::{AllocError, Global};
 use std::marker::Model;
 
@@ -154,11 +155,18 @@ impl<'a> Program<'a> {
         }
     }
 
-    /// The number of the struct at a place, which has at most 15 words: the kind of its objects.
+    /// The most words of the struct at a place if something points to it.
+    pub fn pointed_limit(&self, at: u64) -> u64
+        ensures { result ≡ tables.pointed_limit (tables.root_struct (tables_in self.now)) at }
+    {
+        pointed_limit(self.root_struct(), at)
+    }
+
+    /// The number of the struct at a place, which isn't too large: the kind of its objects.
     pub fn number_at(&self, at: u64) -> u64
         ensures { result ≡ tables.number_at (tables_in self.now) at }
     {
-        numbered_up_to(at, &self.structs)
+        numbered_up_to(self.root_struct(), at, &self.structs)
     }
 
     /// The type of a pointer to the struct of that name.
@@ -168,7 +176,7 @@ impl<'a> Program<'a> {
         match self.struct_named(name) {
             None => ValueType::Any,
             Some(at) => {
-                if self.words_at(at) <= 15 {
+                if self.words_at(at) <= self.pointed_limit(at) {
                     ValueType::Pointer(at)
                 } else {
                     ValueType::Any
@@ -247,13 +255,24 @@ fn function_names<'a>(alloc: Global, functions: &[&'a Function]) -> Result<Names
     Ok(names)
 }
 
-fn numbered_up_to(place: u64, structs: &[Layout<'_>]) -> u64
-    ensures { result ≡ tables.numbered_up_to place 0 structs.now }
+/// The most words of the struct at a place if something points to it, by the place of the root's.
+pub fn pointed_limit(root: Option<u64>, at: u64) -> u64
+    ensures { result ≡ tables.pointed_limit root at }
+{
+    if is_at(root, at) {
+        POINTED_ROOT
+    } else {
+        OBJECT_WORDS
+    }
+}
+
+fn numbered_up_to(root: Option<u64>, place: u64, structs: &[Layout<'_>]) -> u64
+    ensures { result ≡ tables.numbered_up_to root place 0 structs.now }
 {
     let mut number = 0u64;
     let mut at = 0u64;
     for layout in structs {
-        if at <= place && layout.words() <= 15 {
+        if at <= place && layout.words() <= pointed_limit(root, at) {
             number += 1;
         }
         at += 1;

@@ -8,7 +8,7 @@ ghost use Rattle.c_types.specs.Shapes as meaning;
 ghost use Rattle.c_types.specs.Views.{tables_in};
 
 use crate::layout::Layout;
-use crate::program::Program;
+use crate::program::{Program, pointed_limit};
 use c_tree::expr::IntType;
 use c_tree::item::{Field, Length};
 use c_tree::stmt::TypeName;
@@ -21,7 +21,7 @@ pub fn program_shapes(alloc: Global, program: &Program<'_>) -> Result<Shapes, Al
     ensures { IfOk result (λ s. s ≡ meaning.shapes_in (tables_in program.now)) }
 {
     let root = root_shapes(alloc, program)?;
-    let structs = struct_shapes(alloc, program.structs())?;
+    let structs = struct_shapes(alloc, program.root_struct(), program.structs())?;
     Ok(Shapes { root, structs })
 }
 
@@ -38,14 +38,21 @@ fn root_shapes(alloc: Global, program: &Program<'_>) -> Result<FieldShapes, Allo
     }
 }
 
-fn struct_shapes(alloc: Global, structs: &[Layout<'_>]) -> Result<StructShapes, AllocError>
-    ensures { IfOk result (λ s. s ≡ map meaning.struct_shape (meaning.numbered structs.now)) }
+fn struct_shapes(
+    alloc: Global,
+    root: Option<u64>,
+    structs: &[Layout<'_>],
+) -> Result<StructShapes, AllocError>
+    ensures { IfOk result (λ s.
+        s ≡ map meaning.struct_shape (meaning.numbered root 0 structs.now)) }
 {
     let mut shapes = StructShapes::new(alloc);
+    let mut at = 0u64;
     for layout in structs {
-        if layout.words() <= 15 {
+        if layout.words() <= pointed_limit(root, at) {
             shapes.push(struct_shape(alloc, layout)?)?;
         }
+        at += 1;
     }
     Ok(shapes)
 }

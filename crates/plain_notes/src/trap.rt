@@ -46,7 +46,7 @@ const TRAPS: [Trap; 8] = [
     Trap {
         name: "logfull",
         words: "a store has to be logged, and the log is full",
-        remedy: "do less in one call, or give a new pool more records with `--log`, up to 4096",
+        remedy: "do less in one call, or give a new pool more records with `--log`, up to 65536",
     },
     Trap {
         name: "depth",

@@ -17,15 +17,15 @@ struct Number {
 const SLOTS: Number = Number {
     name: "--slots",
     least: 1,
-    most: 65_535,
-    limits: "from 1 to 65535",
+    most: 1_048_576,
+    limits: "from 1 to 1048576",
 };
 
 const LOG: Number = Number {
     name: "--log",
     least: 1,
-    most: 4_096,
-    limits: "from 1 to 4096",
+    most: 65_536,
+    limits: "from 1 to 65536",
 };
 
 const TICKS: Number = Number {
@@ -171,8 +171,8 @@ const HELP: [&str; 30] = [
     "    --header                     prints the header of that file",
     "cnvm code PROGRAM                prints the intermediate code, with places and lines",
     "run, storm, workers, serve and emit have these options too:",
-    "    --slots N                    slots for objects, from 1 to 65535; without it 1024",
-    "    --log N                      records of the log, from 1 to 4096; without it 256",
+    "    --slots N                    slots for objects, from 1 to 1048576; without it 1024",
+    "    --log N                      records of the log, from 1 to 65536; without it 256",
     "    --ticks N                    ticks of a call, from 1 to 1000000; without it 100000",
     "The value of an option is the next word, or stands after `=`.",
     "Each option is given once at most.",

@@ -8,6 +8,7 @@ use crate::names::{
 use c_tree::Ast;
 use c_types::{Kind, LimitKind, Program, TypeFault, ValueType};
 use plain_notes::{Spelled, Told, is_one};
+use pool_map::{ARRAY_LENGTH, OBJECT_WORDS, POINTED_ROOT, ROOT_WORDS};
 use std::alloc::{AllocError, Global};
 
 /// The message of a broken rule.
@@ -39,7 +40,7 @@ fn broken(
             "on the left stands a local, `root.f`, `p->f` or an element of an array field",
         ),
         TypeFault::Arity { .. } => arity(alloc, ast, near, name),
-        TypeFault::TooBig { limit, value, .. } => too_big(alloc, name, limit, value),
+        TypeFault::TooBig { limit, value, .. } => too_big(alloc, ast, name, limit, value),
         TypeFault::NoRoot { .. } => no_root(alloc),
         TypeFault::BadTx { .. } => bad_tx(alloc, near, name),
         TypeFault::NoMemory => Err(AllocError),
@@ -164,18 +165,33 @@ fn is_root_field(alloc: Global, ast: &Ast, name: &[u8]) -> Result<bool, AllocErr
     Ok(has_name(&fields(alloc, ast, Some(root))?, name))
 }
 
-/// What to write for a function of C's library.
-const LIBRARY: [(&str, &str); 7] = [
+/// What to write for a function of C's library, or of PMDK's.
+const LIBRARY: [(&str, &str); 18] = [
     ("malloc", "write `pm_new(struct NAME)` for an object"),
     ("calloc", "write `pm_new(struct NAME)` for an object"),
     ("free", "write `pm_free(p)`"),
     ("assert", "write `if (!c) { abort(); }`"),
+    ("exit", "a call ends with `return`, or with `abort();`"),
     ("printf", PRINTS),
     ("print", PRINTS),
     ("puts", PRINTS),
+    ("memcpy", COPIES),
+    ("memmove", COPIES),
+    ("memset", COPIES),
+    ("D_RO", "write `p->f`"),
+    ("D_RW", "write `p->f`"),
+    ("TX_ADD", LOGS),
+    ("TX_ADD_FIELD", LOGS),
+    ("TX_SET", LOGS),
+    ("pmem_persist", LOGS),
+    ("pmemobj_persist", LOGS),
 ];
 
 const PRINTS: &str = "a program prints nothing: return the value, and a script's call answers it";
+
+const COPIES: &str = "give each field its value: `q->f = p->f;`, in a loop for an array";
+
+const LOGS: &str = "leave it out, and store by `=`: what has to be logged and flushed is found";
 
 fn library(name: &str) -> Option<&'static str> {
     for (function, note) in LIBRARY {
@@ -215,11 +231,16 @@ fn arity_told(alloc: Global, name: &str, wanted: u64, given: u64) -> Result<Told
     Told::new(alloc, what.as_str())
 }
 
-fn too_big(alloc: Global, name: &str, limit: LimitKind, value: u64) -> Result<Told, AllocError> {
+fn too_big(
+    alloc: Global,
+    ast: &Ast,
+    name: &str,
+    limit: LimitKind,
+    value: u64,
+) -> Result<Told, AllocError> {
     let what = match limit {
-        LimitKind::Struct | LimitKind::Root | LimitKind::Pointer => words(
-            alloc, name, limit, value,
-        )?,
+        LimitKind::Struct | LimitKind::Root => words(alloc, name, limit, value)?,
+        LimitKind::Pointer => pointed(alloc, ast, name, value)?,
         _ => count(alloc, limit, value)?,
     };
     let told = Told::new(alloc, what.as_str())?;
@@ -236,16 +257,27 @@ fn too_big(alloc: Global, name: &str, limit: LimitKind, value: u64) -> Result<To
 /// The message of a struct with too many words.
 fn words(alloc: Global, name: &str, limit: LimitKind, value: u64) -> Result<String, AllocError> {
     match limit {
-        LimitKind::Root => format!(in alloc;
-            "the root's struct has {value} words; 512 is the limit"
-        ),
-        LimitKind::Pointer => {
-            format!(in alloc;
-                "`struct {name}` has {value} words, so nothing points to it; 15 is the limit"
-            )
+        LimitKind::Root => {
+            let limit = ROOT_WORDS;
+            format!(in alloc; "the root's struct has {value} words; {limit} is the limit")
         }
-        _ => format!(in alloc; "`struct {name}` has {value} words; 15 is the limit"),
+        _ => {
+            let limit = OBJECT_WORDS;
+            format!(in alloc; "`struct {name}` has {value} words; {limit} is the limit")
+        }
     }
+}
+
+/// The message of a pointer to a struct with too many words; those of the root's struct are fewer.
+fn pointed(alloc: Global, ast: &Ast, name: &str, value: u64) -> Result<String, AllocError> {
+    let is_root = match root_struct(ast) {
+        Some(root) => root == name,
+        None => false,
+    };
+    let limit = if is_root { POINTED_ROOT } else { OBJECT_WORDS };
+    format!(in alloc;
+        "`struct {name}` has {value} words, so nothing points to it; {limit} is the limit"
+    )
 }
 
 /// The message of a length that is too large, or of one too many of something.
@@ -254,7 +286,10 @@ fn count(alloc: Global, limit: LimitKind, value: u64) -> Result<String, AllocErr
         LimitKind::Structs => ("struct", 255),
         LimitKind::Functions => ("function", 1024),
         LimitKind::Parameters => ("parameter", 22),
-        _ => return format!(in alloc; "the length {value} is not from 1 to 512"),
+        _ => {
+            let most = ARRAY_LENGTH;
+            return format!(in alloc; "the length {value} is not from 1 to {most}");
+        }
     };
     format!(in alloc; "this is {what} number {value}; {most} is the limit")
 }

@@ -22,6 +22,7 @@ use Rattle.c_types.specs.Fits.{is_any, is_int, type_takes, comparable, common_ty
 use Rattle.c_types.specs.Fits.{applies, unary_type, binary_type}
 use Rattle.c_types.specs.Tables.{Tables, StructTree, struct_named, function_named, field_named}
 use Rattle.c_types.specs.Tables.{root_struct, words_at, is_length, pointer_type, declared_type}
+use Rattle.c_types.specs.Tables.{pointed_limit}
 use Rattle.c_types.specs.Expressions.{Scope, variable_type, type_of_kind, field_kind}
 use Rattle.c_types.specs.Expressions.{member_kind, arrow_kind, is_indexed, element_of, type_if}
 use Rattle.c_types.specs.Expressions.{may_call, call_type, result_type, parameters_of, number_type}
@@ -67,21 +68,23 @@ pointer_of : (t : Tables) (name : List ℕ) (x : StaticType) → pointer_type t 
     → IsPointer t name x
 pointer_of t name x e = by (struct_named t name) refl e
   where
-    small : (i : ℕ) (c : Bool) → struct_named t name ≡ Some i → nat_le (words_at t i) 15 ≡ c
+    small : (i : ℕ) (c : Bool) → struct_named t name ≡ Some i → nat_le (words_at t i)
+        (pointed_limit (root_struct t) i) ≡ c
         → (if c then Pointer i else Any) ≡ value_type x → IsPointer t name x
     small i true is le e = record {
       place = i;
       named = is;
-      small = le_from (words_at t i) 15 le;
+      small = le_from (words_at t i) (pointed_limit (root_struct t) i) le;
       is = pointed_is i x e;
     }
     small i false is le e = any_not x e
 
     by : (o : Option ℕ) → struct_named t name ≡ o
-        → option_map_or (λ i. if nat_le (words_at t i) 15 then Pointer i else Any) o Any
+        → option_map_or (λ i. if nat_le (words_at t i) (pointed_limit (root_struct t) i) then
+        Pointer i else Any) o Any
         ≡ value_type x → IsPointer t name x
     by None is e = any_not x e
-    by (Some i) is e = small i (nat_le (words_at t i) 15) is refl e
+    by (Some i) is e = small i (nat_le (words_at t i) (pointed_limit (root_struct t) i)) is refl e
 
 written_of : (t : Tables) (ty : TypeTree) (x : StaticType) → declared_type t ty ≡ value_type x
     → IsWritten t ty x

@@ -27,7 +27,7 @@ use Rattle.c_types.specs.Fits.{is_int, is_pointer, type_takes, comparable, joins
 use Rattle.c_types.specs.Fits.{assigns}
 use Rattle.c_types.specs.Tables.{Tables, StructTree, index_of, field_names, is_first}
 use Rattle.c_types.specs.Tables.{function_names, function_named, struct_named, root_struct}
-use Rattle.c_types.specs.Tables.{words_of_struct, words_at, is_length, declared_type}
+use Rattle.c_types.specs.Tables.{words_of_struct, words_at, is_length, declared_type, pointed_limit}
 use Rattle.c_types.specs.Expressions.{Scope, variable_type, member, member_broken, arrow_broken}
 use Rattle.c_types.specs.Expressions.{is_indexed, unindexed, kind_of, type_of, callee_broken}
 use Rattle.c_types.specs.Expressions.{call_broken, argument_count, parameter_type, parameters_of}
@@ -35,6 +35,7 @@ use Rattle.c_types.specs.Statements.{is_declared, is_target}
 use Rattle.c_types.specs.Declarations.{length_broken, all_ints, is_transaction}
 use Rattle.c_types.specs.Transactions.{is_const}
 use Rattle.c_types.specs.Looking.{statements_store, storing, look_broken}
+use Rattle.pool_map.specs.declared.limits.TheConstants.{OBJECT_WORDS, ROOT_WORDS}
 use Rattle.rules_law.specs.typed.Types.{PointerTo, IsWritten}
 use Rattle.rules_law.proofs.typed.Programs.{root_first}
 use Rattle.rules_law.specs.rules.Part.{Part}
@@ -105,11 +106,12 @@ abbrev count_structs : ℕ → StructTree → List Broken
 count_structs i s = unless (not (nat_eq i 255)) s.name.place (TooBig limit.Structs 256)
 
 abbrev of_struct : Tables → ℕ → StructTree → List Broken
-of_struct t i s = unless (is_first (root_struct t) i || nat_le (words_of_struct s) 15) s.name.place
+of_struct t i s = unless (is_first (root_struct t) i || nat_le (words_of_struct s) OBJECT_WORDS)
+    s.name.place
     (TooBig limit.Struct (words_of_struct s))
 
 abbrev of_root : Tables → ℕ → StructTree → List Broken
-of_root t i s = unless (not (is_first (root_struct t) i) || nat_le (words_of_struct s) 512)
+of_root t i s = unless (not (is_first (root_struct t) i) || nat_le (words_of_struct s) ROOT_WORDS)
     s.name.place (TooBig limit.Root (words_of_struct s))
 
 words_listed : (t : Tables) (i : ℕ) (s : StructTree) (b : Broken)
@@ -315,24 +317,28 @@ listed {t} (row.struct_words {i = i} {s = s} other more) =
     words_listed t i s (Told (TooBig limit.Struct (words_of_struct s)) s.name.place)
     (among_left (of_struct t i s) (of_root t i s)
     (Told (TooBig limit.Struct (words_of_struct s)) s.name.place)
-    (unless_told (is_first (root_struct t) i || nat_le (words_of_struct s) 15) s.name.place
+    (unless_told (is_first (root_struct t) i || nat_le (words_of_struct s) OBJECT_WORDS)
+    s.name.place
     (TooBig limit.Struct (words_of_struct s))
-    (or_from (is_first (root_struct t) i) (nat_le (words_of_struct s) 15)
-    (first_not (root_struct t) i other) (not_le (words_of_struct s) 15 more))))
+    (or_from (is_first (root_struct t) i) (nat_le (words_of_struct s) OBJECT_WORDS)
+    (first_not (root_struct t) i other) (not_le (words_of_struct s) OBJECT_WORDS more))))
 listed {t} (row.root_words {i = i} {s = s} is more) =
     words_listed t i s (Told (TooBig limit.Root (words_of_struct s)) s.name.place)
     (among_right (of_struct t i s) (of_root t i s)
     (Told (TooBig limit.Root (words_of_struct s)) s.name.place)
-    (unless_told (not (is_first (root_struct t) i) || nat_le (words_of_struct s) 512) s.name.place
+    (unless_told (not (is_first (root_struct t) i) || nat_le (words_of_struct s) ROOT_WORDS)
+    s.name.place
     (TooBig limit.Root (words_of_struct s))
-    (or_from (not (is_first (root_struct t) i)) (nat_le (words_of_struct s) 512)
-    (rw (root_first (root_struct t) i is) refl) (not_le (words_of_struct s) 512 more))))
+    (or_from (not (is_first (root_struct t) i)) (nat_le (words_of_struct s) ROOT_WORDS)
+    (rw (root_first (root_struct t) i is) refl) (not_le (words_of_struct s) ROOT_WORDS more))))
 listed {t} (row.pointed_words {name = name} i is more) =
     subst (λ o. IsAmong (Told (TooBig limit.Pointer (words_at t i)) name.place) (option_map_or
-    (λ i. unless (nat_le (words_at t i) 15) name.place (TooBig limit.Pointer (words_at t i))) o
+    (λ i. unless (nat_le (words_at t i) (pointed_limit (root_struct t) i)) name.place
+    (TooBig limit.Pointer (words_at t i))) o
     (broken_at name.place UnknownName))) (sym is)
-    (unless_told (nat_le (words_at t i) 15) name.place (TooBig limit.Pointer (words_at t i))
-    (not_le (words_at t i) 15 more))
+    (unless_told (nat_le (words_at t i) (pointed_limit (root_struct t) i)) name.place
+    (TooBig limit.Pointer (words_at t i))
+    (not_le (words_at t i) (pointed_limit (root_struct t) i) more))
 listed {t} (row.many_structs {s = s}) =
     among_right (again_struct t 255 s) (count_structs 255 s ++ (of_struct t 255 s
     ++ of_root t 255 s)) (Told (TooBig limit.Structs 256) s.name.place)

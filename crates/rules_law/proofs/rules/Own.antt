@@ -33,7 +33,7 @@ use Rattle.c_types.specs.Fits.{is_int, is_pointer, type_takes, comparable, joins
 use Rattle.c_types.specs.Fits.{assigns}
 use Rattle.c_types.specs.Tables.{Tables, StructTree, RootTree, index_of, field_names, is_first}
 use Rattle.c_types.specs.Tables.{function_names, function_named, struct_named, root_struct}
-use Rattle.c_types.specs.Tables.{words_of_struct, words_at, is_length, declared_type}
+use Rattle.c_types.specs.Tables.{words_of_struct, words_at, is_length, declared_type, pointed_limit}
 use Rattle.c_types.specs.Expressions.{Scope, variable_type, variable_broken, member, member_broken}
 use Rattle.c_types.specs.Expressions.{root_broken, arrow_broken, is_indexed, unindexed, kind_of}
 use Rattle.c_types.specs.Expressions.{type_of, type_of_kind, pointer_broken, call_broken}
@@ -43,6 +43,7 @@ use Rattle.c_types.specs.Declarations.{length_broken, struct_broken, root_item_b
 use Rattle.c_types.specs.Declarations.{is_transaction}
 use Rattle.c_types.specs.Transactions.{is_const}
 use Rattle.c_types.specs.Looking.{statements_store, storing, look_broken}
+use Rattle.pool_map.specs.declared.limits.TheConstants.{OBJECT_WORDS, ROOT_WORDS}
 use Rattle.rules_law.proofs.typed.Programs.{first_at}
 use Rattle.rules_law.specs.typed.Types.{PointerTo, IsWritten}
 use Rattle.rules_law.specs.rules.Part.{Part}
@@ -247,15 +248,17 @@ rows_value t s e b (kind.Array element place) is h =
 
 rows_pointer : (t : Tables) (name : Ident) (b : Broken) (o : Option ℕ)
     → struct_named t name.text ≡ o
-    → IsAmong b (option_map_or (λ i. unless (nat_le (words_at t i) 15) name.place
+    → IsAmong b (option_map_or (λ i. unless (nat_le (words_at t i)
+    (pointed_limit (root_struct t) i)) name.place
     (TooBig limit.Pointer (words_at t i))) o (broken_at name.place UnknownName))
     → Breaks t (part.PointerTo name) b.rule b.place
 rows_pointer t name b None is h =
     one_of (Breaks t (part.PointerTo name)) b name.place UnknownName h (row.no_struct is)
 rows_pointer t name b (Some i) is h =
-    unless_of (Breaks t (part.PointerTo name)) b (nat_le (words_at t i) 15) name.place
+    unless_of (Breaks t (part.PointerTo name)) b (nat_le (words_at t i)
+    (pointed_limit (root_struct t) i)) name.place
     (TooBig limit.Pointer (words_at t i)) h
-    (λ e. row.pointed_words i is (le_not (words_at t i) 15 e))
+    (λ e. row.pointed_words i is (le_not (words_at t i) (pointed_limit (root_struct t) i) e))
 
 -- the rows of a call
 void_rows : (t : Tables) (used : Bool) (name : Ident) (all : Arguments) (f : FunctionTree)
@@ -425,8 +428,8 @@ rows_struct t i s b h =
     let at : ℕ = s.name.place in
     let one = unless (is_first (struct_named t s.name.text) i) at Twice in
     let two = unless (not (nat_eq i 255)) at (TooBig limit.Structs 256) in
-    let three = unless (root || nat_le words 15) at (TooBig limit.Struct words) in
-    let four = unless (not root || nat_le words 512) at (TooBig limit.Root words) in
+    let three = unless (root || nat_le words OBJECT_WORDS) at (TooBig limit.Struct words) in
+    let four = unless (not root || nat_le words ROOT_WORDS) at (TooBig limit.Root words) in
     either one (two ++ (three ++ four)) b h
     (λ h. unless_of P b (is_first (struct_named t s.name.text) i) at Twice h
     (λ n. row.struct_again (not_first (struct_named t s.name.text) i n)))
@@ -434,13 +437,14 @@ rows_struct t i s b h =
     (λ h. unless_of P b (not (nat_eq i 255)) at (TooBig limit.Structs 256) h
     (many_structs_at t i s))
     (λ h. either three four b h
-    (λ h. unless_of P b (root || nat_le words 15) at (TooBig limit.Struct words) h
-    (λ n. row.struct_words (not_first (root_struct t) i (or_parts root (nat_le words 15) n).0)
-    (le_not words 15 (or_parts root (nat_le words 15) n).1)))
-    (λ h. unless_of P b (not root || nat_le words 512) at (TooBig limit.Root words) h
+    (λ h. unless_of P b (root || nat_le words OBJECT_WORDS) at (TooBig limit.Struct words) h
+    (λ n. row.struct_words (not_first (root_struct t) i
+    (or_parts root (nat_le words OBJECT_WORDS) n).0)
+    (le_not words OBJECT_WORDS (or_parts root (nat_le words OBJECT_WORDS) n).1)))
+    (λ h. unless_of P b (not root || nat_le words ROOT_WORDS) at (TooBig limit.Root words) h
     (λ n. row.root_words (first_at (root_struct t) i (not-false root
-    (or_parts (not root) (nat_le words 512) n).0))
-    (le_not words 512 (or_parts (not root) (nat_le words 512) n).1)))))
+    (or_parts (not root) (nat_le words ROOT_WORDS) n).0))
+    (le_not words ROOT_WORDS (or_parts (not root) (nat_le words ROOT_WORDS) n).1)))))
 
 -- a parameter that isn't an int
 pub no_int_among : (t : Tables) (qs : List ParameterTree) → all_ints t qs ≡ false

@@ -23,6 +23,7 @@ use Rattle.c_types.specs.Fits.{is_any, is_int, is_pointer, is_null, is_pointer_t
 use Rattle.c_types.specs.Fits.{comparable, common_type, joins_types, applies, int_of, common_int}
 use Rattle.c_types.specs.Fits.{unary_type, binary_type}
 use Rattle.c_types.specs.Tables.{Tables, struct_named, words_at, pointer_type, declared_type}
+use Rattle.c_types.specs.Tables.{root_struct, pointed_limit}
 use Rattle.c_types.specs.Expressions.{pointer_broken}
 use Rattle.c_types.specs.Statements.{type_broken}
 use Rattle.c_types.proofs.Unbroken.{some_none, holds}
@@ -333,7 +334,8 @@ taken_answer a b x y is same good = taken x y (rw (is, same) at good)
 
 -- a type where it is written
 pointer_case : (t : Tables) (name : Ident) (o : Option ℕ) → struct_named t name.text ≡ o
-    → option_map_or (λ i. unless (nat_le (words_at t i) 15) name.place (TooBig limit.Pointer
+    → option_map_or (λ i. unless (nat_le (words_at t i) (pointed_limit (root_struct t) i))
+    name.place (TooBig limit.Pointer
     (words_at t i))) o (broken_at name.place UnknownName) ≡ []
     → (x : StaticType) × IsPointer t name.text x
 pointer_case t name None is e = absurd (some_none name.place UnknownName e)
@@ -342,7 +344,8 @@ pointer_case t name (Some i) is e = (
   record {
     place = i;
     named = is;
-    small = le_from (words_at t i) 15 (holds (nat_le (words_at t i) 15) name.place
+    small = le_from (words_at t i) (pointed_limit (root_struct t) i)
+        (holds (nat_le (words_at t i) (pointed_limit (root_struct t) i)) name.place
         (TooBig limit.Pointer (words_at t i)) e);
     is = refl;
   },
@@ -359,11 +362,20 @@ type_written t (stmt.Pointer name) e = pointer_written t name e
 
 pub pointer_is : (t : Tables) (name : List ℕ) (x : StaticType) → IsPointer t name x
     → pointer_type t name ≡ value_type x
-pointer_is t name x h = rw (h.named, le_true (words_at t h.place) 15 h.small, h.is) refl
+pointer_is t name x h = rw (
+  h.named,
+  le_true (words_at t h.place)
+      (pointed_limit (root_struct t) h.place) h.small,
+  h.is,
+) refl
 
 pub pointer_kept : (t : Tables) (name : Ident) (x : StaticType) → IsPointer t name.text x
     → pointer_broken t name ≡ []
-pointer_kept t name x h = rw (h.named, le_true (words_at t h.place) 15 h.small) refl
+pointer_kept t name x h = rw (
+  h.named,
+  le_true (words_at t h.place)
+      (pointed_limit (root_struct t) h.place) h.small,
+) refl
 
 -- what is declared with a type that is there has it
 pub declared_is : (t : Tables) (ty : TypeTree) (x : StaticType) → IsWritten t ty x

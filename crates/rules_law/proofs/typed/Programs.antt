@@ -34,6 +34,7 @@ use Rattle.c_types.specs.Transactions.{is_const}
 use Rattle.c_types.specs.Looking.{statements_store, storing, look_broken, looks_broken}
 use Rattle.c_types.specs.Fault.{breaks}
 use Rattle.c_types.proofs.Unbroken.{none_left, none_right, some_none, holds}
+use Rattle.pool_map.specs.declared.limits.TheConstants.{OBJECT_WORDS, ROOT_WORDS}
 use Rattle.rules_law.specs.rules.Stores.{Stores}
 use Rattle.rules_law.proofs.rules.Storing.{stores_to}
 use Rattle.rules_law.specs.typed.Types.{StaticType, IsWritten}
@@ -91,12 +92,13 @@ zero_plus j = omega arith
 pub root_first : (o : Option ℕ) (i : ℕ) → o ≡ Some i → is_first o i ≡ true
 root_first o i e = rw (e, same_true i) refl
 
-small_words : (b : Bool) (n : ℕ) → (b || nat_le n 15) ≡ true → b ≡ false → n ≤ 15
+small_words : (b : Bool) (n : ℕ) → (b || nat_le n OBJECT_WORDS) ≡ true → b ≡ false → n ≤
+    OBJECT_WORDS
 small_words true n e is = absurd (false≢true (sym is))
-small_words false n e is = le_from n 15 e
+small_words false n e is = le_from n OBJECT_WORDS e
 
-root_words : (b : Bool) (n : ℕ) → (not b || nat_le n 512) ≡ true → b ≡ true → n ≤ 512
-root_words true n e is = le_from n 512 e
+root_words : (b : Bool) (n : ℕ) → (not b || nat_le n ROOT_WORDS) ≡ true → b ≡ true → n ≤ ROOT_WORDS
+root_words true n e is = le_from n ROOT_WORDS e
 root_words false n e is = absurd (false≢true is)
 
 struct_is : (t : Tables) (i : ℕ) (s : StructTree) → i ≤ 255 → whole_struct_broken t i s ≡ []
@@ -108,16 +110,17 @@ struct_is t i s le b =
     none_right (struct_broken t i s) _ b in
     let one = unless (is_first (struct_named t s.name.text) i) s.name.place Twice in
     let two = unless (not (nat_eq i 255)) s.name.place (TooBig limit.Structs 256) in
-    let three = unless (root || nat_le (words_of_struct s) 15) s.name.place (TooBig limit.Struct
+    let three = unless (root || nat_le (words_of_struct s) OBJECT_WORDS) s.name.place
+    (TooBig limit.Struct
     (words_of_struct s)) in
     let r1 = none_right one _ own in
     let r2 = none_right two _ r1 in
-    let small : (root || nat_le (words_of_struct s) 15) ≡ true =
-    holds (root || nat_le (words_of_struct s) 15) s.name.place
+    let small : (root || nat_le (words_of_struct s) OBJECT_WORDS) ≡ true =
+    holds (root || nat_le (words_of_struct s) OBJECT_WORDS) s.name.place
     (TooBig limit.Struct (words_of_struct s))
     (none_left three _ r2) in
-    let large : (not root || nat_le (words_of_struct s) 512) ≡ true =
-    holds (not root || nat_le (words_of_struct s) 512) s.name.place (TooBig limit.Root
+    let large : (not root || nat_le (words_of_struct s) ROOT_WORDS) ≡ true =
+    holds (not root || nat_le (words_of_struct s) ROOT_WORDS) s.name.place (TooBig limit.Root
     (words_of_struct s)) (none_right three _ r2) in
     record {
       few = below 255 i le (holds (not (nat_eq i 255)) s.name.place (TooBig limit.Structs 256)

@@ -29,6 +29,7 @@ use Rattle.c_types.specs.Declarations.{function_broken, whole_function_broken, f
 use Rattle.c_types.specs.Transactions.{is_const}
 use Rattle.c_types.specs.Looking.{statements_store, storing, look_broken, looks_broken}
 use Rattle.c_types.specs.Fault.{breaks}
+use Rattle.pool_map.specs.declared.limits.TheConstants.{OBJECT_WORDS, ROOT_WORDS}
 use Rattle.rules_law.specs.rules.Stores.{Stores}
 use Rattle.rules_law.proofs.rules.Storing.{stores_from}
 use Rattle.rules_law.specs.typed.Programs.{IsLength, IsField, IsStruct, AreParameters, AreInts}
@@ -62,12 +63,14 @@ fields_kept t s i (f ∷ fs) h =
     (rw (plus_zero i) at (h 0 f refl)))
     (fields_kept t s (i + 1) fs (λ j g e. rw (plus_next i j) at (h (suc j) g e)))
 
-either_small : (b : Bool) (n : ℕ) → (b ≡ false → n ≤ 15) → (b || nat_le n 15) ≡ true
+either_small : (b : Bool) (n : ℕ) → (b ≡ false → n ≤ OBJECT_WORDS) → (b || nat_le n OBJECT_WORDS) ≡
+    true
 either_small true n h = refl
-either_small false n h = le_true n 15 (h refl)
+either_small false n h = le_true n OBJECT_WORDS (h refl)
 
-either_large : (b : Bool) (n : ℕ) → (b ≡ true → n ≤ 512) → (not b || nat_le n 512) ≡ true
-either_large true n h = le_true n 512 (h refl)
+either_large : (b : Bool) (n : ℕ) → (b ≡ true → n ≤ ROOT_WORDS) → (not b || nat_le n ROOT_WORDS) ≡
+    true
+either_large true n h = le_true n ROOT_WORDS (h refl)
 either_large false n h = refl
 
 other_struct : (o : Option ℕ) (i : ℕ) → is_first o i ≡ false → o ≡ Some i → ⊥
@@ -77,19 +80,20 @@ struct_kept : (t : Tables) (i : ℕ) (s : StructTree) → IsStruct t i s
     → whole_struct_broken t i s ≡ []
 struct_kept t i s h =
     let root : Bool = is_first (root_struct t) i in
-    let small : (root || nat_le (words_of_struct s) 15) ≡ true =
+    let small : (root || nat_le (words_of_struct s) OBJECT_WORDS) ≡ true =
     either_small root (words_of_struct s)
     (λ other. h.small (other_struct (root_struct t) i other)) in
-    let large : (not root || nat_le (words_of_struct s) 512) ≡ true =
+    let large : (not root || nat_le (words_of_struct s) ROOT_WORDS) ≡ true =
     either_large root (words_of_struct s) (λ is. h.root (first_at (root_struct t) i is)) in
     none_both (struct_broken t i s) _
     (none_both (unless (is_first (struct_named t s.name.text) i) s.name.place Twice) _
     (kept _ s.name.place Twice (root_first (struct_named t s.name.text) i h.first))
     (none_both (unless (not (nat_eq i 255)) s.name.place (TooBig limit.Structs 256)) _
     (kept _ s.name.place (TooBig limit.Structs 256) (not_last 255 i h.few))
-    (none_both (unless (root || nat_le (words_of_struct s) 15) s.name.place (TooBig limit.Struct
+    (none_both (unless (root || nat_le (words_of_struct s) OBJECT_WORDS) s.name.place
+    (TooBig limit.Struct
     (words_of_struct s))) _ (kept _ s.name.place (TooBig limit.Struct (words_of_struct s)) small)
-    (kept (not root || nat_le (words_of_struct s) 512) s.name.place (TooBig limit.Root
+    (kept (not root || nat_le (words_of_struct s) ROOT_WORDS) s.name.place (TooBig limit.Root
     (words_of_struct s)) large))))
     (fields_kept t s 0 s.fields (λ j f e. rw (zero_plus j) (h.fields j f e)))
 

@@ -22,7 +22,7 @@ use Rattle.c_types.specs.declared.broken.Rule.TheVariants.{NotAssignable, Arity,
 use Rattle.c_types.specs.declared.broken.Rule.TheVariants.{BadTx}
 use Rattle.c_types.specs.Tables.{Tables, StructTree, RootTree, index_of, field_names}
 use Rattle.c_types.specs.Tables.{function_names, function_named, struct_named, root_struct}
-use Rattle.c_types.specs.Tables.{words_of_struct, words_at, is_length}
+use Rattle.c_types.specs.Tables.{words_of_struct, words_at, pointed_limit, is_length}
 use Rattle.c_types.specs.Expressions.{Scope, variable_type, member, argument_count}
 use Rattle.c_types.specs.Statements.{is_declared, is_target}
 use Rattle.rules_law.specs.typed.Types.{StaticType, Number, PointerTo, IsWritten, Applies, Joins}
@@ -32,6 +32,7 @@ use Rattle.rules_law.specs.rules.Given.{MayBe, Types, GivesArray, EndsAt}
 use Rattle.rules_law.specs.rules.Part.{Part}
 use Rattle.rules_law.specs.rules.Part as part
 use Rattle.rules_law.specs.rules.Stores.{Stores}
+use Rattle.pool_map.specs.declared.limits.TheConstants.{OBJECT_WORDS, ROOT_WORDS}
 
 -- Conditions on what has types as F and G say. A refused part may have any type, so none of these
 -- holds for its sake alone.
@@ -164,18 +165,20 @@ pub data Breaks (t : Tables) : Part → Rule → (place : ℕ) → Type 0 where
   other_number : {used : Bool} {name : Ident} {all : Arguments} (f : FunctionTree)
       → function_named t name.text ≡ Some f → argument_count all ≢ length f.parameters
       → Breaks t (part.Called used name all) Arity name.place
-  -- 6, too big, by its limits; array: a length isn't from 1 to 512; the number
+  -- 6, too big, by its limits; array: a length isn't from 1 to the most elements; the number
   array_length : {s : StructTree} {j : ℕ} {f : FieldTree} (l : LengthTree)
       → f.len ≡ Some l → is_length l.value ≡ false
       → Breaks t (part.Field s j f) (TooBig limit.Array (cast_unsigned w64 l.value)) l.place
-  -- struct: a struct that isn't the root's has over 15 words; its name
-  struct_words : {i : ℕ} {s : StructTree} → root_struct t ≢ Some i → 15 < words_of_struct s
+  -- struct: a struct that isn't the root's has more than the words of an object; its name
+  struct_words : {i : ℕ} {s : StructTree} → root_struct t ≢ Some i
+      → OBJECT_WORDS < words_of_struct s
       → Breaks t (part.Struct i s) (TooBig limit.Struct (words_of_struct s)) s.name.place
-  -- root: the root's struct has over 512 words; its name
-  root_words : {i : ℕ} {s : StructTree} → root_struct t ≡ Some i → 512 < words_of_struct s
+  -- root: the root's struct has more than the words of a root; its name
+  root_words : {i : ℕ} {s : StructTree} → root_struct t ≡ Some i → ROOT_WORDS < words_of_struct s
       → Breaks t (part.Struct i s) (TooBig limit.Root (words_of_struct s)) s.name.place
-  -- pointer: a pointer to, or `pm_new` of, a struct of over 15 words; the struct's name there
-  pointed_words : {name : Ident} (i : ℕ) → struct_named t name.text ≡ Some i → 15 < words_at t i
+  -- pointer: a pointer to, or `pm_new` of, a struct that is too large; the struct's name there
+  pointed_words : {name : Ident} (i : ℕ) → struct_named t name.text ≡ Some i
+      → pointed_limit (root_struct t) i < words_at t i
       → Breaks t (part.PointerTo name) (TooBig limit.Pointer (words_at t i)) name.place
   -- structs: there are over 255; the 256th name
   many_structs : {s : StructTree} → Breaks t (part.Struct 255 s) (TooBig limit.Structs 256)

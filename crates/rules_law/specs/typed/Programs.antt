@@ -15,6 +15,7 @@ use Rattle.c_types.specs.Declarations.{scopes_after_parameter, scopes_after_para
 use Rattle.rules_law.specs.typed.Types.{StaticType, IsWritten}
 use Rattle.rules_law.specs.typed.Statements.{AreStatements}
 use Rattle.rules_law.specs.rules.Stores.{Stores}
+use Rattle.pool_map.specs.declared.limits.TheConstants.{OBJECT_WORDS, ROOT_WORDS}
 
 abbrev pub IsLength : Option LengthTree → Type 0
 IsLength None = Unit {0}
@@ -26,13 +27,13 @@ pub record IsField (t : Tables) (s : StructTree) (j : ℕ) (f : FieldTree) : Typ
   pub typed : (x : StaticType) × IsWritten t f.ty x
   pub long : IsLength f.len
 
--- the struct at place i: one of at most 255, the first of its name, with at most 512 words if it is
--- the root's, and 15 if not
+-- the struct at place i: one of at most 255, the first of its name, with few enough words,
+-- by the limit of the root if it is the root's
 pub record IsStruct (t : Tables) (i : ℕ) (s : StructTree) : Type 0 where
   pub few : i < 255
   pub first : struct_named t s.name.text ≡ Some i
-  pub root : root_struct t ≡ Some i → words_of_struct s ≤ 512
-  pub small : (root_struct t ≡ Some i → ⊥) → words_of_struct s ≤ 15
+  pub root : root_struct t ≡ Some i → words_of_struct s ≤ ROOT_WORDS
+  pub small : (root_struct t ≡ Some i → ⊥) → words_of_struct s ≤ OBJECT_WORDS
   pub fields : (j : ℕ) (f : FieldTree) → slice_get s.fields j ≡ Some f → IsField t s j f
 
 -- the parameters from place i on, in the scope of those before: at most 22, with names of their own

@@ -14,6 +14,7 @@ use Rattle.c_tree.specs.ItemTree.{FieldTree, LengthTree}
 use Rattle.c_types.specs.declared.value_type.ValueType.{ValueType}
 use Rattle.c_types.specs.declared.value_type.ValueType.TheVariants as answered
 use Rattle.c_types.specs.Tables.{Tables, StructTree, struct_named, field_named, words_at, is_length}
+use Rattle.c_types.specs.Tables.{root_struct, pointed_limit}
 
 pub data StaticType : Type 0 where
   Number : IntType → StaticType
@@ -26,11 +27,11 @@ value_type (Number n) = answered.Int n
 value_type (PointerTo i) = answered.Pointer i
 value_type NullPointer = answered.Null
 
--- `struct NAME *`: a pointer to a struct that is there and has at most 15 words
+-- `struct NAME *`: a pointer to a struct that is there and isn't too large
 pub record IsPointer (t : Tables) (name : List ℕ) (x : StaticType) : Type 0 where
   pub place : ℕ
   pub named : struct_named t name ≡ Some place
-  pub small : words_at t place ≤ 15
+  pub small : words_at t place ≤ pointed_limit (root_struct t) place
   pub is : x ≡ PointerTo place
 
 -- a type as it is written
@@ -47,7 +48,7 @@ pub record HasValueField (t : Tables) (i : ℕ) (name : List ℕ) (x : StaticTyp
   pub single : field.len ≡ None
   pub typed : IsWritten t field.ty x
 
--- it has a field of that name, an array of 1 to 512 elements of that type
+-- it has a field of that name, an array of elements of that type, whose length isn't refused
 pub record HasArray (t : Tables) (i : ℕ) (name : List ℕ) (x : StaticType) : Type 0 where
   pub owner : StructTree
   pub there : slice_get t.structs i ≡ Some owner
