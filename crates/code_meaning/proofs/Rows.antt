@@ -1,5 +1,6 @@
 -- Worked examples: the definition of the code's meaning computes.
-use Rattle.std.proofs.Common.{◌≡◌, ℕ, pos, negsuc, List, [], ◌∷◌, Option, None, Some, refl, true, false}
+use Rattle.std.proofs.Common.{◌≡◌, ℕ, pos, negsuc, List, [], ◌∷◌, Option, None, Some, refl, true}
+use Rattle.std.proofs.Common.{false}
 use Rattle.std.specs.Int.{int_wrap}
 use Rattle.nvm_base.specs.declared.op.BinOp.TheVariants as op
 use Rattle.pool_map.specs.PoolMap.{PoolMap}

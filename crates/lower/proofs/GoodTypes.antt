@@ -26,7 +26,7 @@ use Rattle.c_types.specs.Broken.{broken_at, unless}
 use Rattle.c_types.specs.Fits.{is_any, is_int, type_takes, comparable, common_type, joins_types}
 use Rattle.c_types.specs.Fits.{applies, unary_type}
 use Rattle.c_types.specs.Tables.{Tables, StructTree, index_of, struct_named, function_named}
-use Rattle.c_types.specs.Tables.{field_named, root_struct, is_length, words_of_struct, words_at}
+use Rattle.c_types.specs.Tables.{field_named, root_struct, is_length, words_at, pointed_limit}
 use Rattle.c_types.specs.Tables.{pointer_type, declared_type, field_names, function_names, is_first}
 use Rattle.c_types.specs.Statements.{type_broken}
 use Rattle.c_types.specs.Declarations.{length_broken, field_broken}
@@ -39,17 +39,17 @@ use Rattle.c_types.specs.Expressions.{argument_count, kind_of, all_taken, type_o
 use Rattle.c_types.specs.Expressions.{broken_in_all}
 use Rattle.c_types.proofs.Unbroken.{none_left, none_right, holds}
 use Rattle.lower.specs.Names as names
-use Rattle.lower.specs.Names.{Variables, LocalRegister, register_in, variable_register, register_of}
-use Rattle.lower.specs.Names.{nowhere, with_local, with_name}
-use Rattle.lower.proofs.Sane.{IsSane, IsFieldOf, index_of_in, field_of_struct}
+use Rattle.lower.specs.Names.{Variables, LocalRegister, register_in, variable_register}
+use Rattle.lower.specs.Names.{nowhere, with_local}
+use Rattle.lower.proofs.Sane.{IsSane, IsFieldOf, is_pointed, index_of_in, field_of_struct}
 
--- a type that isn't any; a pointer leads to a struct of at most 15 words
+-- a type that isn't any; a pointer leads to a struct that isn't too large
 abbrev pub IsGood : Tables → ValueType → Type 0
 IsGood t (Int n) = Unit {0}
 IsGood t Null = Unit {0}
 IsGood t Any = ⊥
 IsGood t (Pointer i) = (s : StructTree) × (slice_get t.structs i ≡ Some s)
-    × (nat_le (words_of_struct s) 15 ≡ true)
+    × (is_pointed t i s ≡ true)
 
 abbrev pub IsGoodKind : Tables → Kind → Type 0
 IsGoodKind t (Value ty) = IsGood t ty
@@ -160,10 +160,11 @@ agree_declared t r name ty q v g lt h = parts v.scopes v.locals h
 
 -- a type as it is written
 pointer_case : (t : Tables) (name : Ident) (o : Option ℕ) → struct_named t name.text ≡ o
-    → option_map_or (λ i. unless (nat_le (words_at t i) 15) name.place
+    → option_map_or (λ i. unless (nat_le (words_at t i) (pointed_limit (root_struct t) i))
+    name.place
     (TooBig limit.Pointer (words_at t i))) o (broken_at name.place UnknownName) ≡ []
     → (i : ℕ) × (s : StructTree) × (struct_named t name.text ≡ Some i)
-    × (slice_get t.structs i ≡ Some s) × (nat_le (words_of_struct s) 15 ≡ true)
+    × (slice_get t.structs i ≡ Some s) × (is_pointed t i s ≡ true)
     × (pointer_type t name.text ≡ Pointer i)
 pointer_case t name None is e = absurd (some_none e)
   where
@@ -172,13 +173,14 @@ pointer_case t name None is e = absurd (some_none e)
 pointer_case t name (Some i) is e =
     let s : (s : StructTree) × (slice_get t.structs i ≡ Some s) =
     index_of_in (λ (s : StructTree). s.name.text) name.text t.structs i is in
-    let small : nat_le (words_at t i) 15 ≡ true =
-    holds (nat_le (words_at t i) 15) name.place (TooBig limit.Pointer (words_at t i)) e in
+    let small : nat_le (words_at t i) (pointed_limit (root_struct t) i) ≡ true =
+    holds (nat_le (words_at t i) (pointed_limit (root_struct t) i)) name.place
+    (TooBig limit.Pointer (words_at t i)) e in
     (i, s.0, is, s.1, rw s.1 at small, rw (is, small) refl)
 
 pub pointer_good : (t : Tables) (name : Ident) → pointer_broken t name ≡ []
     → (i : ℕ) × (s : StructTree) × (struct_named t name.text ≡ Some i)
-    × (slice_get t.structs i ≡ Some s) × (nat_le (words_of_struct s) 15 ≡ true)
+    × (slice_get t.structs i ≡ Some s) × (is_pointed t i s ≡ true)
     × (pointer_type t name.text ≡ Pointer i)
 pointer_good t name e = pointer_case t name (struct_named t name.text) refl e
 
@@ -187,7 +189,7 @@ pub declared_good : (t : Tables) (ty : TypeTree) → type_broken t ty ≡ []
 declared_good t (stmt.Int n) e = tt
 declared_good t (stmt.Pointer name) e =
     let h : (i : ℕ) × (s : StructTree) × (struct_named t name.text ≡ Some i)
-    × (slice_get t.structs i ≡ Some s) × (nat_le (words_of_struct s) 15 ≡ true)
+    × (slice_get t.structs i ≡ Some s) × (is_pointed t i s ≡ true)
     × (pointer_type t name.text ≡ Pointer i) = pointer_good t name e in
     rw h.5 (h.1, h.3, h.4)
 
@@ -363,7 +365,7 @@ mutual
       rw root.2 (member_good t root.0 root.1 name h root.3 (rw root.2 at b))
   kind_good t r v (expr.New place name) h a b =
       let p : (i : ℕ) × (s : StructTree) × (struct_named t name.text ≡ Some i)
-      × (slice_get t.structs i ≡ Some s) × (nat_le (words_of_struct s) 15 ≡ true)
+      × (slice_get t.structs i ≡ Some s) × (is_pointed t i s ≡ true)
       × (pointer_type t name.text ≡ Pointer i) = pointer_good t name b in
       rw p.5 (p.1, p.3, p.4)
   kind_good t r v (expr.Arrow base place name) h a b =

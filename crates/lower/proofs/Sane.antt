@@ -1,13 +1,15 @@
 -- Facts on the tables of a program that breaks no rule: what names mean exists.
 use Rattle.std.proofs.Common.{◌≡◌, ℕ, zero, suc, ◌+◌, ◌-◌, ◌^◌, ◌≤◌, ◌<◌, min, pos, negsuc, Bool}
 use Rattle.std.proofs.Common.{true, false, List, [], ◌∷◌, ◌++◌, length, map, refl, ap, ◌∙◌, arith}
-use Rattle.std.proofs.Common.{rules}
+use Rattle.std.proofs.Common.{rules, subst}
 use Rattle.std.specs.Prelude.{nat_le, nat_eq, ◌&&◌, ◌||◌, not, if◌then◌else◌, is_some, slice_get}
 use Rattle.std.specs.Prelude.{Option, None, Some, option_map, option_and_then, bytes_eq}
 use Rattle.std.specs.Option.{option_map_or}
 use Rattle.std.proofs.lemmas.Option.{slice_get-map, slice_get_within, none-some, same_Some}
 use Rattle.std.proofs.lemmas.Bool.{false≢true, and_parts}
 use Rattle.nvm_base.proofs.Tests.{le_from, le_true, some_of}
+use Rattle.pool_map.specs.declared.limits.TheConstants.{ARRAY_LENGTH, OBJECT_WORDS, ROOT_WORDS}
+use Rattle.pool_map.specs.declared.limits.TheConstants.{POINTED_ROOT}
 use Rattle.c_tree.specs.ItemTree.{FunctionTree, FieldTree, LengthTree}
 use Rattle.c_tree.specs.Program.{Program, tree_of}
 use Rattle.c_types.specs.declared.broken.Rule.TheVariants.{UnknownName, Twice, TooBig, NoRoot}
@@ -17,10 +19,10 @@ use Rattle.c_types.specs.Broken.{unless}
 use Rattle.c_types.specs.Tables.{Tables, StructTree, RootTree, tables_of, index_of, function_names}
 use Rattle.c_types.specs.Tables.{field_names, struct_named, field_named, is_first, is_length}
 use Rattle.c_types.specs.Tables.{length_words, field_words, words_from, words_of_struct}
-use Rattle.c_types.specs.Tables.{root_struct, number_at, numbered_up_to}
+use Rattle.c_types.specs.Tables.{root_struct, number_at, numbered_up_to, pointed_limit}
 use Rattle.c_types.specs.Statements.{type_broken}
 use Rattle.c_types.specs.Fault.{breaks}
-use Rattle.c_types.specs.Shapes.{struct_shape, numbered, shapes_in}
+use Rattle.c_types.specs.Shapes.{struct_shape, numbered, shapes_in, numbered_in}
 use Rattle.c_types.specs.Declarations.{length_broken, field_broken, fields_broken, struct_broken}
 use Rattle.c_types.specs.Declarations.{whole_struct_broken, structs_broken, root_item_broken}
 use Rattle.c_types.specs.Declarations.{roots_broken, function_broken, body_broken}
@@ -34,7 +36,8 @@ use Rattle.lower.proofs.Few.{not_at}
 pub record IsSane (t : Tables) : Type 0 where
   pub structs : length t.structs ≤ 255
   pub functions : length t.functions ≤ 1024
-  pub fields : (i : ℕ) (s : StructTree) → slice_get t.structs i ≡ Some s → (length s.fields ≤ 512)
+  pub fields : (i : ℕ) (s : StructTree) → slice_get t.structs i ≡ Some s →
+      (length s.fields ≤ ROOT_WORDS)
       × (fields_broken t (field_names s) 0 s.fields ≡ [])
   pub results : (i : ℕ) (f : FunctionTree) → slice_get t.functions i ≡ Some f
       → option_map_or (type_broken t) f.result_type [] ≡ []
@@ -156,7 +159,7 @@ functions_few t i (f ∷ fs) le e =
 -- each field has at least one word
 length_some : (n : _) → is_length n ≡ true → 1 ≤ length_words n
 length_some (pos n) e =
-    let one : 1 ≤ n = le_from 1 n (and_parts (nat_le 1 n) (nat_le n 512) e).0 in
+    let one : 1 ≤ n = le_from 1 n (and_parts (nat_le 1 n) (nat_le n ARRAY_LENGTH) e).0 in
     rw e one
 length_some (negsuc n) e = absurd (false≢true e)
 
@@ -184,36 +187,37 @@ fields_few t names i (f ∷ fs) e =
     (fields_broken t names (i + 1) fs) e) in
     rw first (omega (arith, one, less))
 
-words_small : (root : Bool) (w : ℕ) → (root || nat_le w 15) ≡ true
-    → (not root || nat_le w 512) ≡ true → w ≤ 512
-words_small true w a b = le_from w 512 b
-words_small false w a b = let small : w ≤ 15 = le_from w 15 a in omega (arith, small)
+words_small : (root : Bool) (w : ℕ) → (root || nat_le w OBJECT_WORDS) ≡ true
+    → (not root || nat_le w ROOT_WORDS) ≡ true → w ≤ ROOT_WORDS
+words_small true w a b = le_from w ROOT_WORDS b
+words_small false w a b = let small : w ≤ OBJECT_WORDS = le_from w OBJECT_WORDS a in
+    omega (arith, small)
 
 struct_fields : (t : Tables) (i : ℕ) (s : StructTree) → whole_struct_broken t i s ≡ []
-    → (length s.fields ≤ 512) × (fields_broken t (field_names s) 0 s.fields ≡ [])
+    → (length s.fields ≤ ROOT_WORDS) × (fields_broken t (field_names s) 0 s.fields ≡ [])
 struct_fields t i s e =
     let root : Bool = is_first (root_struct t) i in
     let own : struct_broken t i s ≡ [] =
     none_left (struct_broken t i s) (fields_broken t (field_names s) 0 s.fields) e in
     let fields : fields_broken t (field_names s) 0 s.fields ≡ [] =
     none_right (struct_broken t i s) (fields_broken t (field_names s) 0 s.fields) e in
-    let third : unless (root || nat_le (words_of_struct s) 15) s.name.place
+    let third : unless (root || nat_le (words_of_struct s) OBJECT_WORDS) s.name.place
     (TooBig limit.Struct (words_of_struct s))
-    ++ unless (not root || nat_le (words_of_struct s) 512) s.name.place
+    ++ unless (not root || nat_le (words_of_struct s) ROOT_WORDS) s.name.place
     (TooBig limit.Root (words_of_struct s)) ≡ [] =
     none_right (unless (not (nat_eq i 255)) s.name.place (TooBig limit.Structs 256)) _
     (none_right (unless (is_first (struct_named t s.name.text) i) s.name.place Twice) _ own) in
-    let a : (root || nat_le (words_of_struct s) 15) ≡ true =
-    holds (root || nat_le (words_of_struct s) 15) s.name.place
+    let a : (root || nat_le (words_of_struct s) OBJECT_WORDS) ≡ true =
+    holds (root || nat_le (words_of_struct s) OBJECT_WORDS) s.name.place
     (TooBig limit.Struct (words_of_struct s))
-    (none_left (unless (root || nat_le (words_of_struct s) 15) s.name.place
+    (none_left (unless (root || nat_le (words_of_struct s) OBJECT_WORDS) s.name.place
     (TooBig limit.Struct (words_of_struct s))) _ third) in
-    let b : (not root || nat_le (words_of_struct s) 512) ≡ true =
-    holds (not root || nat_le (words_of_struct s) 512) s.name.place
+    let b : (not root || nat_le (words_of_struct s) ROOT_WORDS) ≡ true =
+    holds (not root || nat_le (words_of_struct s) ROOT_WORDS) s.name.place
     (TooBig limit.Root (words_of_struct s))
-    (none_right (unless (root || nat_le (words_of_struct s) 15) s.name.place
+    (none_right (unless (root || nat_le (words_of_struct s) OBJECT_WORDS) s.name.place
     (TooBig limit.Struct (words_of_struct s))) _ third) in
-    let small : min (words_from (field_names s) 0 s.fields) (2 ^ 64 - 1) ≤ 512 =
+    let small : min (words_from (field_names s) 0 s.fields) (2 ^ 64 - 1) ≤ ROOT_WORDS =
     words_small root (words_of_struct s) a b in
     let less : length s.fields ≤ words_from (field_names s) 0 s.fields =
     fields_few t (field_names s) 0 s.fields fields in
@@ -264,36 +268,65 @@ sane tree e =
       root = root_there t t.roots e3 e2;
     }
 
--- structs of at most 15 words have numbers from 1
-none_later : (n i : ℕ) (ss : List StructTree) → n < i → numbered_up_to n i ss ≡ 0
-none_later n i [] lt = refl
-none_later n i (s ∷ ss) lt =
+-- whether pointers may lead to the struct at place i
+abbrev pub is_pointed : Tables → ℕ → StructTree → Bool
+is_pointed t i s = nat_le (words_of_struct s) (pointed_limit (root_struct t) i)
+
+pub limit_small : (root : Option ℕ) (i : ℕ) → pointed_limit root i ≤ OBJECT_WORDS
+limit_small root i = by_test (is_first root i)
+  where
+    by_test : (b : Bool) → (if b then POINTED_ROOT else OBJECT_WORDS) ≤ OBJECT_WORDS
+    by_test true = omega arith
+    by_test false = omega arith
+
+pub pointed_words : (t : Tables) (i : ℕ) (s : StructTree) → is_pointed t i s ≡ true
+    → words_of_struct s ≤ OBJECT_WORDS
+pointed_words t i s e = both (words_of_struct s) (pointed_limit (root_struct t) i)
+    (le_from (words_of_struct s) (pointed_limit (root_struct t) i) e)
+    (limit_small (root_struct t) i)
+  where
+    both : (n m : ℕ) → n ≤ m → m ≤ OBJECT_WORDS → n ≤ OBJECT_WORDS
+    both n m le few = omega (arith, le, few)
+
+-- structs that pointers may lead to have numbers from 1
+none_later : (root : Option ℕ) (n i : ℕ) (ss : List StructTree) → n < i
+    → numbered_up_to root n i ss ≡ 0
+none_later root n i [] lt = refl
+none_later root n i (s ∷ ss) lt =
     let past : nat_le i n ≡ false = le_false i n lt in
-    let rest : numbered_up_to n (i + 1) ss ≡ 0 = none_later n (i + 1) ss (omega (arith, lt)) in
+    let rest : numbered_up_to root n (i + 1) ss ≡ 0 =
+    none_later root n (i + 1) ss (omega (arith, lt)) in
     rw (past, rest) refl
   where
     le_false : (i n : ℕ) → n < i → nat_le i n ≡ false
     le_false i n lt = search (rules)
 
-numbered_at : (i j : ℕ) (ss : List StructTree) (s : StructTree) → slice_get ss j ≡ Some s
-    → nat_le (words_of_struct s) 15 ≡ true
-    → (m : ℕ) × (numbered_up_to (i + j) i ss ≡ suc m) × (slice_get (numbered ss) m ≡ Some s)
-    × (m < length ss)
-numbered_at i j [] s is ok = absurd (none-some s is)
-numbered_at i zero (x ∷ ss) s is ok =
+numbered_at : (root : Option ℕ) (i j : ℕ) (ss : List StructTree) (s : StructTree)
+    → slice_get ss j ≡ Some s → nat_le (words_of_struct s) (pointed_limit root (i + j)) ≡ true
+    → (m : ℕ) × (numbered_up_to root (i + j) i ss ≡ suc m)
+    × (slice_get (numbered root i ss) m ≡ Some s) × (m < length ss)
+numbered_at root i j [] s is ok = absurd (none-some s is)
+numbered_at root i zero (x ∷ ss) s is ok =
     let same : x ≡ s = same_Some x s is in
-    let okx : nat_le (words_of_struct x) 15 ≡ true = rw same ok in
+    let okx : nat_le (words_of_struct x) (pointed_limit root i) ≡ true =
+    subst (λ k. nat_le (words_of_struct x) (pointed_limit root k) ≡ true) (plus_zero i)
+    (rw same ok) in
     let here : nat_le i (i + 0) ≡ true = le_true i (i + 0) (omega arith) in
-    let rest : numbered_up_to (i + 0) (i + 1) ss ≡ 0 =
-    none_later (i + 0) (i + 1) ss (omega arith) in
+    let rest : numbered_up_to root (i + 0) (i + 1) ss ≡ 0 =
+    none_later root (i + 0) (i + 1) ss (omega arith) in
     (0, rw (here, okx, rest) refl, rw okx (ap Some same), omega arith)
-numbered_at i (suc j) (x ∷ ss) s is ok =
-    let h : (m : ℕ) × (numbered_up_to ((i + 1) + j) (i + 1) ss ≡ suc m)
-    × (slice_get (numbered ss) m ≡ Some s) × (m < length ss) = numbered_at (i + 1) j ss s is ok in
+  where
+    plus_zero : (i : ℕ) → i + 0 ≡ i
+    plus_zero i = omega arith
+numbered_at root i (suc j) (x ∷ ss) s is ok =
+    let h : (m : ℕ) × (numbered_up_to root ((i + 1) + j) (i + 1) ss ≡ suc m)
+    × (slice_get (numbered root (i + 1) ss) m ≡ Some s) × (m < length ss) =
+    numbered_at root (i + 1) j ss s is
+    (subst (λ k. nat_le (words_of_struct s) (pointed_limit root k) ≡ true) (next i j) ok) in
     let here : nat_le i (i + suc j) ≡ true = le_true i (i + suc j) (omega arith) in
-    let up : numbered_up_to (i + suc j) (i + 1) ss ≡ suc h.0 =
-    ap (λ n. numbered_up_to n (i + 1) ss) (next i j) ∙ h.1 in
-    rw (here, up) (by_test (nat_le (words_of_struct x) 15) h.0 h.2 h.3)
+    let up : numbered_up_to root (i + suc j) (i + 1) ss ≡ suc h.0 =
+    ap (λ n. numbered_up_to root n (i + 1) ss) (next i j) ∙ h.1 in
+    rw (here, up) (by_test (nat_le (words_of_struct x) (pointed_limit root i)) h.0 h.2 h.3)
   where
     next : (i j : ℕ) → i + suc j ≡ (i + 1) + j
     next i j = omega arith
@@ -304,10 +337,10 @@ numbered_at i (suc j) (x ∷ ss) s is ok =
     none_more : (m : ℕ) → 0 + suc m ≡ suc m
     none_more m = omega arith
 
-    by_test : (b : Bool) (m : ℕ) → slice_get (numbered ss) m ≡ Some s → m < length ss
-        → (k : ℕ) × ((if true && b then 1 else 0) + suc m ≡ suc k)
-        × (slice_get (if b then x ∷ numbered ss else numbered ss) k ≡ Some s)
-        × (k < suc (length ss))
+    by_test : (b : Bool) (m : ℕ) → slice_get (numbered root (i + 1) ss) m ≡ Some s
+        → m < length ss → (k : ℕ) × ((if true && b then 1 else 0) + suc m ≡ suc k)
+        × (slice_get (if b then x ∷ numbered root (i + 1) ss else numbered root (i + 1) ss) k
+        ≡ Some s) × (k < suc (length ss))
     by_test true m is lt = (suc m, one_more m, is, omega (arith, lt))
     by_test false m is lt = (m, none_more m, is, omega (arith, lt))
 
@@ -317,19 +350,20 @@ pub record IsKindOf (t : Tables) (i : ℕ) (s : StructTree) : Type 0 where
   pub shape : struct_of (shapes_in t) (struct_kind_at t (Some i)) ≡ Some (struct_shape s)
 
 pub kind_of_struct : (t : Tables) (i : ℕ) (s : StructTree) → length t.structs ≤ 255
-    → slice_get t.structs i ≡ Some s → nat_le (words_of_struct s) 15 ≡ true → IsKindOf t i s
+    → slice_get t.structs i ≡ Some s → is_pointed t i s ≡ true → IsKindOf t i s
 kind_of_struct t i s few is ok =
-    let h : (m : ℕ) × (numbered_up_to (0 + i) 0 t.structs ≡ suc m)
-    × (slice_get (numbered t.structs) m ≡ Some s) × (m < length t.structs) =
-    numbered_at 0 i t.structs s is ok in
-    let counted : numbered_up_to i 0 t.structs ≡ suc h.0 =
-    ap (λ n. numbered_up_to n 0 t.structs) (zero_plus i) ∙ h.1 in
+    let root : Option ℕ = root_struct t in
+    let h : (m : ℕ) × (numbered_up_to root (0 + i) 0 t.structs ≡ suc m)
+    × (slice_get (numbered_in t) m ≡ Some s) × (m < length t.structs) =
+    numbered_at root 0 i t.structs s is (subst (λ k. is_pointed t k s ≡ true) (zero_plus i) ok) in
+    let counted : numbered_up_to root i 0 t.structs ≡ suc h.0 =
+    ap (λ n. numbered_up_to root n 0 t.structs) (zero_plus i) ∙ h.1 in
     let number : struct_kind_at t (Some i) ≡ suc h.0 =
     small_number (number_at t i) h.0 counted (omega (arith, few, h.3)) in
-    let get : slice_get (map struct_shape (numbered t.structs)) h.0 ≡ Some (struct_shape s) =
-    slice_get-map struct_shape (numbered t.structs) h.0 ∙ ap (option_map struct_shape) h.2 in
-    let within : h.0 < length (map struct_shape (numbered t.structs)) =
-    slice_get_within (map struct_shape (numbered t.structs)) h.0 (struct_shape s) get in
+    let get : slice_get (map struct_shape (numbered_in t)) h.0 ≡ Some (struct_shape s) =
+    slice_get-map struct_shape (numbered_in t) h.0 ∙ ap (option_map struct_shape) h.2 in
+    let within : h.0 < length (map struct_shape (numbered_in t)) =
+    slice_get_within (map struct_shape (numbered_in t)) h.0 (struct_shape s) get in
     record {
       kind = rw number (omega (arith, within), omega (arith, within));
       shape = rw number get;
@@ -354,14 +388,15 @@ pub field_of_struct : (t : Tables) (i : ℕ) (s : StructTree) (name : List ℕ) 
     → IsFieldOf t i s name f
 field_of_struct t i s name f h is named = by_index (index_of name (field_names s)) refl named
   where
-    small_number : (n : ℕ) → n < 512 → found_number (Some n) ≡ n
+    small_number : (n : ℕ) → n < ROOT_WORDS → found_number (Some n) ≡ n
     small_number n lt = omega (arith, lt)
 
     by_index : (o : Option ℕ) → index_of name (field_names s) ≡ o
         → option_and_then (slice_get s.fields) o ≡ Some f → IsFieldOf t i s name f
     by_index None at e = absurd (none-some f e)
     by_index (Some j) at e =
-        let fields : (length s.fields ≤ 512) × (fields_broken t (field_names s) 0 s.fields ≡ []) =
+        let fields : (length s.fields ≤ ROOT_WORDS) × (fields_broken t (field_names s) 0 s.fields ≡
+        []) =
         h.fields i s is in
         let within : j < length s.fields = slice_get_within s.fields j f e in
         record {

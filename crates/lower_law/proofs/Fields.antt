@@ -21,7 +21,7 @@ use Rattle.c_types.specs.Fits.{is_pointer}
 use Rattle.c_types.specs.Tables.{Tables, StructTree, index_of, field_names, field_named, is_length}
 use Rattle.c_types.specs.Tables.{is_first, field_words, words_from, words_of_struct, words_at}
 use Rattle.c_types.specs.Tables.{field_start, field_words_before, number_at, numbered_up_to}
-use Rattle.c_types.specs.Tables.{root_struct, pointed_struct}
+use Rattle.c_types.specs.Tables.{root_struct, pointed_struct, pointed_limit}
 use Rattle.c_types.specs.Statements.{type_broken}
 use Rattle.c_types.specs.Shapes.{field_shape, root_fields, shapes_in}
 use Rattle.c_types.specs.Declarations.{length_broken, field_broken, fields_broken}
@@ -36,11 +36,12 @@ use Rattle.pool_map.specs.declared.trap.TrapKind.{TrapKind}
 use Rattle.pool_map.specs.declared.trap.TrapKind.TheVariants as trap
 use Rattle.pool_map.specs.declared.word.PoolWord.TheVariants.{Root, Field}
 use Rattle.pool_map.specs.Checks.{then_on, element_in, new_at}
+use Rattle.pool_map.specs.declared.limits.TheConstants.{ARRAY_LENGTH, OBJECT_WORDS, ROOT_WORDS}
 use Rattle.c_meaning.specs.Access as access
 use Rattle.nvm_base.specs.Naturals.{natural_of}
 use Rattle.lower.specs.Names.{found_number, struct_kind_at, kind_named, field_number, nowhere}
 use Rattle.lower.specs.Names.{root_target, field_target}
-use Rattle.lower.proofs.Sane.{IsSane, kind_of_struct}
+use Rattle.lower.proofs.Sane.{IsSane, is_pointed, pointed_words, kind_of_struct}
 use Rattle.lower.proofs.GoodTypes.{IsGood, member_there, pointer_good}
 use Rattle.code_meaning.specs.Code as code
 use Rattle.code_meaning.specs.Code.{spot_of, fields_of, new_in, free_in}
@@ -62,17 +63,17 @@ elements_same (Some l) e = same l.value (holds (is_length l.value) l.place _ e)
     same (negsuc n) e = absurd (false≢true e)
 
 elements_few : (l : Option LengthTree) → option_map_or length_broken l [] ≡ []
-    → option_map_or (λ (x : LengthTree). natural_of x.value) l 0 ≤ 512
+    → option_map_or (λ (x : LengthTree). natural_of x.value) l 0 ≤ ARRAY_LENGTH
 elements_few None e = omega arith
 elements_few (Some l) e = few l.value (holds (is_length l.value) l.place _ e)
   where
-    few : (n : ℤ) → is_length n ≡ true → natural_of n ≤ 512
-    few (pos n) e = let both : (nat_le 1 n && nat_le n 512) ≡ true = e in
-        le_from n 512 (and_parts (nat_le 1 n) (nat_le n 512) both).1
+    few : (n : ℤ) → is_length n ≡ true → natural_of n ≤ ARRAY_LENGTH
+    few (pos n) e = let both : (nat_le 1 n && nat_le n ARRAY_LENGTH) ≡ true = e in
+        le_from n ARRAY_LENGTH (and_parts (nat_le 1 n) (nat_le n ARRAY_LENGTH) both).1
     few (negsuc n) e = omega arith
 
 -- the word of an element isn't cut at 64 bits
-index_same : (n a : ℕ) (x : ℤ) → n ≤ 512 → a ≤ 262144
+index_same : (n a : ℕ) (x : ℤ) → n ≤ ARRAY_LENGTH → a ≤ 2 ^ 32
     → then_on (element_in n x) (λ i. Ok (min (a + i) (2 ^ 64 - 1)))
     ≡ then_on (element_in n x) (λ i. Ok (a + i))
 index_same n a (negsuc i) few low = refl
@@ -106,7 +107,7 @@ named_field t i s name h is e =
     let named : field_named s name.text ≡ Some f =
     sym (ap (option_and_then (λ (x : StructTree). field_named x name.text)) is) ∙ there.1 in
     let at_place : FieldThere s name.text f = field_there s name.text f named in
-    let few : length s.fields ≤ 512 = (h.fields i s is).0 in
+    let few : length s.fields ≤ ROOT_WORDS = (h.fields i s is).0 in
     let within : at_place.place < length s.fields =
     slice_get_within s.fields at_place.place f at_place.stands in
     record {
@@ -122,7 +123,7 @@ named_field t i s name h is e =
       long = field_length t (field_names s) (0 + there.2.place) f there.2.holds;
     }
   where
-    small_number : (n : ℕ) → n < 512 → found_number (Some n) ≡ n
+    small_number : (n : ℕ) → n < ROOT_WORDS → found_number (Some n) ≡ n
     small_number n lt = omega (arith, lt)
 
 -- the word of a field or an element is the same in the tree and in the code
@@ -136,12 +137,12 @@ word_same t i s name j h is e =
     f : Named t i s name
     f = named_field t i s name h is e
 
-    kept_fields : (length s.fields ≤ 512) × (fields_broken t (field_names s) 0 s.fields ≡ [])
+    kept_fields : (length s.fields ≤ ROOT_WORDS) × (fields_broken t (field_names s) 0 s.fields ≡ [])
     kept_fields = h.fields i s is
 
-    low : field_words_before f.place 0 s.fields ≤ 262144
-    low = let few : length s.fields ≤ 512 = kept_fields.0 in
-        let small : field_words_before f.place 0 s.fields ≤ 512 * length s.fields =
+    low : field_words_before f.place 0 s.fields ≤ 2 ^ 32
+    low = let few : length s.fields ≤ ROOT_WORDS = kept_fields.0 in
+        let small : field_words_before f.place 0 s.fields ≤ ARRAY_LENGTH * length s.fields =
         before_small t (field_names s) f.place 0 s.fields kept_fields.1 in omega (arith, few, small)
 
     counted_same : field_words_before f.place 0 s.fields ≡ code.words_before f.place
@@ -153,7 +154,7 @@ word_same t i s name j h is e =
     first = ap (λ (o : Option ℕ). option_map_or (field_start s) o 0) f.found
         ∙ uncut (field_words_before f.place 0 s.fields) low
       where
-        uncut : (n : ℕ) → n ≤ 262144 → min n (2 ^ 64 - 1) ≡ n
+        uncut : (n : ℕ) → n ≤ 2 ^ 32 → min n (2 ^ 64 - 1) ≡ n
         uncut n le = omega (arith, le)
 
     long : access.field_elements s name.text
@@ -165,8 +166,8 @@ word_same t i s name j h is e =
         ∙ sym (ap code.elements (slice_get-map field_shape s.fields f.place
         ∙ ap (option_map field_shape) f.stands))
 
-    few : access.field_elements s name.text ≤ 512
-    few = subst (λ n. n ≤ 512) (sym
+    few : access.field_elements s name.text ≤ ARRAY_LENGTH
+    few = subst (λ n. n ≤ ARRAY_LENGTH) (sym
         (ap (λ (o : Option FieldTree).
         option_map_or (λ (x : FieldTree).
         option_map_or (λ (l : LengthTree). natural_of l.value) x.len 0) o 0) f.named))
@@ -210,24 +211,27 @@ root_word t name w b j h e =
     ap (λ (o : Result ℕ TrapKind). then_on o (λ i. Ok (Root i))) (word ∙ same)
 
 -- the number of a struct is its kind in the code
-pub numbered_few : (n i : ℕ) (ss : List StructTree) → numbered_up_to n i ss ≤ length ss
-numbered_few n i [] = omega arith
-numbered_few n i (s ∷ ss) = by_test (nat_le i n && nat_le (words_of_struct s) 15)
-    (numbered_up_to n (i + 1) ss) (numbered_few n (i + 1) ss)
+pub numbered_few : (root : Option ℕ) (n i : ℕ) (ss : List StructTree)
+    → numbered_up_to root n i ss ≤ length ss
+numbered_few root n i [] = omega arith
+numbered_few root n i (s ∷ ss) =
+    by_test (nat_le i n && nat_le (words_of_struct s) (pointed_limit root i))
+    (numbered_up_to root n (i + 1) ss) (numbered_few root n (i + 1) ss)
   where
     by_test : (b : Bool) (m : ℕ) → m ≤ length ss → (if b then 1 else 0) + m ≤ suc (length ss)
     by_test true m le = omega (arith, le)
     by_test false m le = omega (arith, le)
 
 kind_same : (t : Tables) (i : ℕ) → IsSane t → struct_kind_at t (Some i) ≡ number_at t i
-kind_same t i h = small (number_at t i) (length t.structs) (numbered_few i 0 t.structs) h.structs
+kind_same t i h =
+    small (number_at t i) (length t.structs) (numbered_few (root_struct t) i 0 t.structs) h.structs
   where
     small : (n m : ℕ) → n ≤ m → m ≤ 255 → found_number (Some n) ≡ n
     small n m le few = omega (arith, le, few)
 
 -- the fields of the objects of a kind
 kind_fields : (t : Tables) (i : ℕ) (s : StructTree) → IsSane t → slice_get t.structs i ≡ Some s
-    → nat_le (words_of_struct s) 15 ≡ true → fields_of (shapes_in t) (struct_kind_at t (Some i))
+    → is_pointed t i s ≡ true → fields_of (shapes_in t) (struct_kind_at t (Some i))
     ≡ map field_shape s.fields
 kind_fields t i s h is small =
     ap (λ (o : Option StructShape). option_map_or (λ (x : StructShape). x.fields) o [])
@@ -294,11 +298,12 @@ new_word t name w h e =
     let g = pointer_good t name e in
     let i : ℕ = g.0 in
     let s : StructTree = g.1 in
-    let kept_fields : (length s.fields ≤ 512) × (fields_broken t (field_names s) 0 s.fields ≡ []) =
+    let kept_fields : (length s.fields ≤ ROOT_WORDS) × (fields_broken t (field_names s) 0 s.fields ≡
+    []) =
     h.fields i s g.3 in
     let kind : kind_named t name.text ≡ number_at t i =
     ap (struct_kind_at t) g.2 ∙ kind_same t i h in
-    let few : words_of_struct s ≤ 15 = le_from (words_of_struct s) 15 g.4 in
+    let few : words_of_struct s ≤ OBJECT_WORDS = pointed_words t i s g.4 in
     let counted : words_from (field_names s) 0 s.fields ≡ pool.words_of (map field_shape s.fields) =
     words_same t (field_names s) 0 s.fields kept_fields.1 in
     let words : words_at t i ≡ pool.words_of (fields_of (shapes_in t) (kind_named t name.text)) =
@@ -314,7 +319,7 @@ new_word t name w h e =
     ∙ new_same w (kind_named t name.text)
     (pool.words_of (fields_of (shapes_in t) (kind_named t name.text))) (least_free w)
   where
-    uncut : (n : ℕ) → min n (2 ^ 64 - 1) ≤ 15 → min n (2 ^ 64 - 1) ≡ n
+    uncut : (n : ℕ) → min n (2 ^ 64 - 1) ≤ OBJECT_WORDS → min n (2 ^ 64 - 1) ≡ n
     uncut n le = omega (arith, le)
 
     new_same : (w : PoolMap) (kind words : ℕ) (o : Option ℕ)

@@ -24,6 +24,7 @@ use Rattle.c_types.proofs.Unbroken.{none_left, none_right, holds}
 use Rattle.pool_map.specs.PoolMap.{PoolMap, object_at}
 use Rattle.pool_map.specs.PoolFits.{words_of_field}
 use Rattle.pool_map.specs.declared.object.Object.{Object}
+use Rattle.pool_map.specs.declared.limits.TheConstants.{ARRAY_LENGTH}
 use Rattle.c_meaning.specs.Access as access
 use Rattle.lower.specs.Names.{function_number, found_number}
 use Rattle.lower.proofs.Sane.{IsSane}
@@ -112,20 +113,21 @@ before_same t names i (suc n) (f ∷ fs) e =
     next i n = omega arith
 
 -- a count of words stays small
-length_small : (l : ℤ) → is_length l ≡ true → length_words l ≤ 512
+length_small : (l : ℤ) → is_length l ≡ true → length_words l ≤ ARRAY_LENGTH
 length_small (pos n) e =
-    let both : (nat_le 1 n && nat_le n 512) ≡ true = e in
-    let le : n ≤ 512 = le_from n 512 (and_parts (nat_le 1 n) (nat_le n 512) both).1 in
+    let both : (nat_le 1 n && nat_le n ARRAY_LENGTH) ≡ true = e in
+    let le : n ≤ ARRAY_LENGTH = le_from n ARRAY_LENGTH (and_parts (nat_le 1 n)
+    (nat_le n ARRAY_LENGTH) both).1 in
     rw e le
 length_small (negsuc n) e = omega arith
 
 field_small : (l : Option LengthTree) → option_map_or length_broken l [] ≡ []
-    → option_map_or (λ (x : LengthTree). length_words x.value) l 1 ≤ 512
+    → option_map_or (λ (x : LengthTree). length_words x.value) l 1 ≤ ARRAY_LENGTH
 field_small None e = omega arith
 field_small (Some l) e = length_small l.value (holds (is_length l.value) l.place _ e)
 
 pub before_small : (t : Tables) (names : List (List ℕ)) (n i : ℕ) (fs : List FieldTree)
-    → fields_broken t names i fs ≡ [] → field_words_before n i fs ≤ 512 * length fs
+    → fields_broken t names i fs ≡ [] → field_words_before n i fs ≤ ARRAY_LENGTH * length fs
 before_small t names n i [] e = omega arith
 before_small t names n i (f ∷ fs) e =
     let own : field_broken t names i f ≡ [] =
@@ -135,8 +137,8 @@ before_small t names n i (f ∷ fs) e =
     by_test (nat_lt i n) (field_words f) (field_words_before n (i + 1) fs)
     (field_small f.len (field_length t names i f own)) (before_small t names n (i + 1) fs rest)
   where
-    by_test : (b : Bool) (a c : ℕ) → a ≤ 512 → c ≤ 512 * length fs
-        → (if b then a else 0) + c ≤ 512 * suc (length fs)
+    by_test : (b : Bool) (a c : ℕ) → a ≤ ARRAY_LENGTH → c ≤ ARRAY_LENGTH * length fs
+        → (if b then a else 0) + c ≤ ARRAY_LENGTH * suc (length fs)
     by_test true a c le less = omega (arith, le, less)
     by_test false a c le less = omega (arith, less)
 

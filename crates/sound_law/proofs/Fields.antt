@@ -17,7 +17,7 @@ use Rattle.c_tree.specs.ItemTree.{FieldTree, LengthTree}
 use Rattle.c_tree.specs.StmtTree.{TypeTree}
 use Rattle.c_tree.specs.StmtTree as stmt
 use Rattle.c_types.specs.Tables.{Tables, StructTree, field_named, root_struct, struct_named}
-use Rattle.c_types.specs.Tables.{words_of_struct, number_at, pointed_struct}
+use Rattle.c_types.specs.Tables.{words_of_struct, number_at, pointed_struct, pointed_limit}
 use Rattle.c_types.specs.Expressions.{type_of}
 use Rattle.c_types.specs.Shapes.{field_shape, struct_shape, shapes_in, root_fields}
 use Rattle.pool_map.specs.PoolFits.{PoolFits, ObjectFits, words_of, struct_at}
@@ -49,15 +49,16 @@ abbrev pub IsSmall : Tables → StaticType → Type 0
 IsSmall t (Number n) = Unit {0}
 IsSmall t NullPointer = Unit {0}
 IsSmall t (PointerTo i) = (s : StructTree) × (slice_get t.structs i ≡ Some s)
-    × (words_of_struct s ≤ 15)
+    × (words_of_struct s ≤ pointed_limit (root_struct t) i)
 
 pub pointer_small : (t : Tables) (name : List ℕ) (x : StaticType) → IsPointer t name x
     → IsSmall t x
 pointer_small t name x h =
     let there : (s : StructTree) × (slice_get t.structs h.place ≡ Some s) =
     index_of_in (λ (s : StructTree). s.name.text) name t.structs h.place h.named in
-    let small : words_of_struct there.0 ≤ 15 =
-    subst (λ (o : Option StructTree). option_map_or words_of_struct o 0 ≤ 15) there.1 h.small in
+    let small : words_of_struct there.0 ≤ pointed_limit (root_struct t) h.place =
+    subst (λ (o : Option StructTree). option_map_or words_of_struct o 0
+    ≤ pointed_limit (root_struct t) h.place) there.1 h.small in
     rw h.is (there.0, there.1, small)
 
 pub written_small : (t : Tables) (ty : TypeTree) (x : StaticType) → IsWritten t ty x → IsSmall t x
@@ -135,17 +136,20 @@ into_slot p kind n (pos (suc b)) r have h = by_object (object_at p (suc b)) refl
 
 module _ (t : Tables) (sane : IsSane t) (typed : IsWellTyped t) where
   number_is : (i : ℕ) → struct_kind_at t (Some i) ≡ number_at t i
-  number_is i = small (number_at t i) (length t.structs) (numbered_few i 0 t.structs) sane.structs
+  number_is i =
+      small (number_at t i) (length t.structs) (numbered_few (root_struct t) i 0 t.structs)
+      sane.structs
     where
       small : (n m : ℕ) → n ≤ m → m ≤ 255 → min n (2 ^ 32 - 1) ≡ n
       small n m le few = omega (arith, le, few)
 
   -- the shape of the objects of a struct
-  shape_at : (i : ℕ) (s : StructTree) → slice_get t.structs i ≡ Some s → words_of_struct s ≤ 15
+  shape_at : (i : ℕ) (s : StructTree) → slice_get t.structs i ≡ Some s
+      → words_of_struct s ≤ pointed_limit (root_struct t) i
       → struct_at (shapes_in t).structs (number_at t i) ≡ Some (struct_shape s)
   shape_at i s is small =
       let k : IsKindOf t i s = kind_of_struct t i s sane.structs is
-      (le_true (words_of_struct s) 15 small) in
+      (le_true (words_of_struct s) (pointed_limit (root_struct t) i) small) in
       subst (λ n. struct_at (shapes_in t).structs n ≡ Some (struct_shape s)) (number_is i)
       (there (struct_kind_at t (Some i)) k.shape)
     where
@@ -156,7 +160,7 @@ module _ (t : Tables) (sane : IsSane t) (typed : IsWellTyped t) where
 
   -- the objects of a struct have its words
   have_words : (i : ℕ) (s : StructTree) (p : PoolMap) → slice_get t.structs i ≡ Some s
-      → words_of_struct s ≤ 15 → PoolFits (shapes_in t) p
+      → words_of_struct s ≤ pointed_limit (root_struct t) i → PoolFits (shapes_in t) p
       → HaveWords p (number_at t i) (words_of (map field_shape s.fields))
   have_words i s p is small fits q object at kind =
       let own : ObjectFits (shapes_in t).structs object =
@@ -211,8 +215,9 @@ module _ (t : Tables) (sane : IsSane t) (typed : IsWellTyped t) where
   arrow_finds i base place name ls p b index is small h fits =
       let at : struct_pointed_by t ls base ≡ Some i = points_to ls base i is in
       let same : h.owner ≡ small.0 = same_Some h.owner small.0 (sym h.there ∙ small.1) in
-      let few : words_of_struct h.owner ≤ 15 =
-      subst (λ (s : StructTree). words_of_struct s ≤ 15) (sym same) small.2 in (
+      let few : words_of_struct h.owner ≤ pointed_limit (root_struct t) i =
+      subst (λ (s : StructTree). words_of_struct s ≤ pointed_limit (root_struct t) i) (sym same)
+      small.2 in (
         small_numbered i (struct_pointed_by t ls base) at small,
         member_there i (struct_pointed_by t ls base) name.text index at h,
         rw at (into_slot p (number_at t i) (words_of (map field_shape h.owner.fields)) b
@@ -226,10 +231,11 @@ module _ (t : Tables) (sane : IsSane t) (typed : IsWellTyped t) where
   new_leaves name x p h fits =
       let there : (s : StructTree) × (slice_get t.structs h.place ≡ Some s) =
       index_of_in (λ (s : StructTree). s.name.text) name.text t.structs h.place h.named in
-      let small : words_of_struct there.0 ≤ 15 =
-      subst (λ (o : Option StructTree). option_map_or words_of_struct o 0 ≤ 15) there.1 h.small in
+      let small : words_of_struct there.0 ≤ pointed_limit (root_struct t) h.place =
+      subst (λ (o : Option StructTree). option_map_or words_of_struct o 0
+      ≤ pointed_limit (root_struct t) h.place) there.1 h.small in
       let k : IsKindOf t h.place there.0 = kind_of_struct t h.place there.0 sane.structs there.1
-      (le_true (words_of_struct there.0) 15 small) in
+      (le_true (words_of_struct there.0) (pointed_limit (root_struct t) h.place) small) in
       let kind : kind_named t name.text ≡ number_at t h.place =
       ap (struct_kind_at t) h.named ∙ number_is h.place in
       let shape : struct_of (shapes_in t) (kind_named t name.text) ≡ Some (struct_shape there.0) =

@@ -20,6 +20,7 @@ use Rattle.pool_map.specs.declared.shapes.FieldShape.{FieldShape}
 use Rattle.pool_map.specs.declared.trap.TrapKind.{TrapKind}
 use Rattle.pool_map.specs.declared.trap.TrapKind.TheVariants as trap
 use Rattle.pool_map.specs.Checks.{then_on, element_in}
+use Rattle.pool_map.specs.declared.limits.TheConstants.{ARRAY_LENGTH, ROOT_WORDS}
 use Rattle.c_meaning.specs.Access.{first_word, field_elements, word_in_struct}
 use Rattle.lower.proofs.Sane.{IsSane}
 use Rattle.lower.proofs.Sane as sane
@@ -54,7 +55,7 @@ pub record Placed (s : StructTree) (name : List ℕ) (f : FieldTree) : Type 0 wh
   pub place : ℕ
   pub found : index_of name (field_names s) ≡ Some place
   pub stands : slice_get s.fields place ≡ Some f
-  pub low : field_words_before place 0 s.fields ≤ 262144
+  pub low : field_words_before place 0 s.fields ≤ 2 ^ 32
   pub within : field_words_before place 0 s.fields + field_words f
       ≤ words_of (map field_shape s.fields)
 
@@ -65,9 +66,9 @@ pub placed : (t : Tables) (i : ℕ) (s : StructTree) (name : List ℕ) (f : Fiel
     → slice_get t.structs i ≡ Some s → field_named s name ≡ Some f → Placed s name f
 placed t i s name f h is named =
     let at : FieldThere s name f = field_there s name f named in
-    let kept : (length s.fields ≤ 512) × (fields_broken t (field_names s) 0 s.fields ≡ []) =
+    let kept : (length s.fields ≤ ROOT_WORDS) × (fields_broken t (field_names s) 0 s.fields ≡ []) =
     h.fields i s is in
-    let small : field_words_before at.place 0 s.fields ≤ 512 * length s.fields =
+    let small : field_words_before at.place 0 s.fields ≤ ARRAY_LENGTH * length s.fields =
     before_small t (field_names s) at.place 0 s.fields kept.1 in
     let before : field_words_before at.place 0 s.fields ≡ words_before at.place
     (map field_shape s.fields) =
@@ -85,19 +86,23 @@ placed t i s name f h is named =
       place = at.place;
       found = at.found;
       stands = at.stands;
-      low = let few : length s.fields ≤ 512 = kept.0 in omega (arith, few, small);
+      low = let few : length s.fields ≤ ROOT_WORDS = kept.0 in omega (arith, few, small);
       within = rw (before, words) within;
     }
 
--- an array has as many words as elements, at most 512
+-- an array has as many words as elements, no more than its limit
 array_words : (n : ℤ) → is_length n ≡ true
-    → (length_words n ≡ natural_of n) × (natural_of n ≤ 512)
-array_words (pos n) e = (rw e refl, le_from n 512 (and_parts (nat_le 1 n) (nat_le n 512) e).1)
+    → (length_words n ≡ natural_of n) × (natural_of n ≤ ARRAY_LENGTH)
+array_words (pos n) e = (
+  rw e refl,
+  le_from n ARRAY_LENGTH
+      (and_parts (nat_le 1 n) (nat_le n ARRAY_LENGTH) e).1,
+)
 array_words (negsuc n) e = absurd (false≢true e)
 
 -- the words of a field are few
 few_words : (o : Option LengthTree) (index : Option ℤ) → IndexFits o index
-    → (option_map_or (λ (l : LengthTree). length_words l.value) o 1) ≤ 512
+    → (option_map_or (λ (l : LengthTree). length_words l.value) o 1) ≤ ARRAY_LENGTH
 few_words None None h = omega arith
 few_words None (Some j) h = absurd h
 few_words (Some l) None h = absurd h
@@ -118,7 +123,8 @@ member t at i s name f index known is whole h indexed = record {
   field = f;
   stands = h.stands;
   indexed = indexed;
-  counted = let low = h.low in let few : field_words f ≤ 512 = few_words f.len index indexed in
+  counted = let low = h.low in
+      let few : field_words f ≤ ARRAY_LENGTH = few_words f.len index indexed in
       omega (arith, low, few);
 }
 

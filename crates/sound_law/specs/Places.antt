@@ -6,7 +6,7 @@ use Rattle.c_tree.specs.ExprTree.{ExprTree}
 use Rattle.c_tree.specs.ExprTree as expr
 use Rattle.c_tree.specs.ItemTree.{FieldTree, LengthTree}
 use Rattle.c_types.specs.Tables.{Tables, StructTree, index_of, field_names, root_struct, is_length}
-use Rattle.c_types.specs.Tables.{field_words, field_words_before, words_of_struct}
+use Rattle.c_types.specs.Tables.{field_words, field_words_before, words_of_struct, pointed_limit}
 use Rattle.pool_map.specs.declared.trap.TrapKind.{TrapKind}
 use Rattle.pool_map.specs.PoolMap.{PoolMap, HasField}
 use Rattle.pool_map.specs.declared.word.PoolWord.{PoolWord}
@@ -33,7 +33,8 @@ LeadsInto p (Err trap) = Unit {0}
 -- the struct that a pointer leads to exists, has a number, and breaks no rule
 abbrev pub IsNumbered : Tables → Option ℕ → Type 0
 IsNumbered t at = (i : ℕ) × (s : StructTree)
-    × (at ≡ Some i) × (slice_get t.structs i ≡ Some s) × (words_of_struct s ≤ 15)
+    × (at ≡ Some i) × (slice_get t.structs i ≡ Some s)
+    × (words_of_struct s ≤ pointed_limit (root_struct t) i)
     × IsStruct t i s
 
 -- an array, of a length that is allowed, has an index, and a field that is no array has none

@@ -11,11 +11,13 @@ use Rattle.c_tree.specs.ItemTree.{FunctionTree}
 use Rattle.c_tree.specs.Program.{Program, tree_of}
 use Rattle.pool_map.specs.declared.shapes.StructShape.{StructShape}
 use Rattle.pool_map.specs.PoolFits.{words_of}
-use Rattle.c_types.specs.Tables.{Tables, StructTree, tables_of, field_names}
+use Rattle.pool_map.specs.declared.limits.TheConstants.{OBJECT_WORDS, ROOT_WORDS}
+use Rattle.c_types.specs.Tables.{Tables, StructTree, tables_of, field_names, root_struct}
 use Rattle.c_types.specs.Tables as counted
 use Rattle.c_types.specs.Statements.{inner_scopes}
 use Rattle.c_types.specs.Fault.{breaks}
-use Rattle.c_types.specs.Shapes.{field_shape, struct_shape, numbered, root_fields, transactions_in}
+use Rattle.c_types.specs.Shapes.{field_shape, struct_shape, numbered_in, root_fields}
+use Rattle.c_types.specs.Shapes.{transactions_in}
 use Rattle.c_types.specs.Declarations.{parameters_broken, function_broken, body_broken}
 use Rattle.c_types.specs.Declarations.{structs_broken, whole_struct_broken}
 use Rattle.c_types.proofs.Unbroken.{none_left, none_right}
@@ -63,7 +65,7 @@ record HasRoot (t : Tables) : Type 0 where
   same : words_of (map field_shape root.fields) ≡ counted.words_from (field_names root) 0
       root.fields
   some : length root.fields ≤ counted.words_from (field_names root) 0 root.fields
-  most : words_of (map field_shape root.fields) ≤ 512
+  most : words_of (map field_shape root.fields) ≤ ROOT_WORDS
 
 has_root : (tree : Program) → breaks tree ≡ [] → HasRoot (tables_of (tree_of tree))
 has_root tree e =
@@ -83,7 +85,7 @@ has_root tree e =
       fields = rw (h.root.2, h.root.3) refl;
       same = words.0;
       some = words.1;
-      most = struct_words t s 512 fields (root_counted t i s h.root.2 whole) (omega arith);
+      most = struct_words t s ROOT_WORDS fields (root_counted t i s h.root.2 whole) (omega arith);
     }
   where
     zero_plus : (i : ℕ) → 0 + i ≡ i
@@ -94,19 +96,20 @@ shapes tree e =
     let t : Tables = tables_of (tree_of tree) in
     let h : IsSane t = sane tree e in
     let root : HasRoot t = has_root tree e in
-    let long : length (map struct_shape (numbered t.structs)) ≡ length (numbered t.structs) =
-    length-map (numbered t.structs) struct_shape in
-    let less : length (numbered t.structs) ≤ length t.structs = numbered_few t.structs in
+    let long : length (map struct_shape (numbered_in t)) ≡ length (numbered_in t) =
+    length-map (numbered_in t) struct_shape in
+    let less : length (numbered_in t) ≤ length t.structs = numbered_few (root_struct t) 0 t.structs
+    in
     record {
       few = omega (arith, long, less, h.structs);
       short = λ k shape is.
-          let s : (s : StructTree) × (slice_get (numbered t.structs) k ≡ Some s)
-          × (struct_shape s ≡ shape) = mapped_one struct_shape (numbered t.structs) k shape is in
+          let s : (s : StructTree) × (slice_get (numbered_in t) k ≡ Some s)
+          × (struct_shape s ≡ shape) = mapped_one struct_shape (numbered_in t) k shape is in
           let one : (j : ℕ) × (slice_get t.structs j ≡ Some s.0) × _ =
-          numbered_one t.structs k s.0 s.1 in
-          subst (λ (x : StructShape). words_of x.fields ≤ 15) s.2
-          (struct_words t s.0 15 (h.fields one.0 s.0 one.1).1 one.2 (omega arith));
-      root = subst (λ fs. words_of (map field_shape fs) ≤ 512) (sym root.fields) root.most;
+          numbered_one (root_struct t) 0 t.structs k s.0 s.1 in
+          subst (λ (x : StructShape). words_of x.fields ≤ OBJECT_WORDS) s.2
+          (struct_words t s.0 OBJECT_WORDS (h.fields one.0 s.0 one.1).1 one.2 (omega arith));
+      root = subst (λ fs. words_of (map field_shape fs) ≤ ROOT_WORDS) (sym root.fields) root.most;
     }
 
 pub root : RootHasWordLaw

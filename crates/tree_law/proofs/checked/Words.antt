@@ -10,7 +10,7 @@ use Rattle.std.specs.Int.{w64, cast_unsigned}
 use Rattle.std.proofs.lemmas.List.Sums.{sum_by-cons}
 use Rattle.std.proofs.lemmas.Bool.{false≢true, and_parts}
 use Rattle.std.proofs.lemmas.Option.{none-some, same_Some}
-use Rattle.nvm_base.proofs.Tests.{le_from}
+use Rattle.nvm_base.proofs.Tests.{le_from, le_true}
 use Rattle.c_lexer.specs.declared.token.Placed.{Placed}
 use Rattle.c_tree.specs.ItemTree.{ItemTree, FieldTree, LengthTree}
 use Rattle.c_tree.specs.Kinds.{ident_at}
@@ -23,7 +23,7 @@ use Rattle.c_types.specs.declared.fault.LimitKind.TheVariants as limit
 use Rattle.c_types.specs.Broken.{unless}
 use Rattle.c_types.specs.Tables.{Tables, StructTree, structs_of, index_of, field_names}
 use Rattle.c_types.specs.Tables.{struct_named, root_struct, is_first, is_length, length_words}
-use Rattle.c_types.specs.Tables.{field_words, words_from}
+use Rattle.c_types.specs.Tables.{field_words, words_from, pointed_limit}
 use Rattle.c_types.specs.Tables as counted
 use Rattle.c_types.specs.Statements.{type_broken}
 use Rattle.c_types.specs.Shapes.{field_shape, numbered}
@@ -31,6 +31,8 @@ use Rattle.c_types.specs.Declarations.{length_broken, field_broken, fields_broke
 use Rattle.c_types.specs.Declarations.{whole_struct_broken}
 use Rattle.c_types.proofs.Unbroken.{none_left, none_right, holds}
 use Rattle.pool_map.specs.PoolFits.{words_of_field, words_of}
+use Rattle.pool_map.specs.declared.limits.TheConstants.{ARRAY_LENGTH, OBJECT_WORDS, ROOT_WORDS}
+use Rattle.lower.proofs.Sane.{limit_small}
 
 -- a field has as many words as its shape, and at least one
 abbrev pub IsCountedField : FieldTree → Type 0
@@ -39,11 +41,12 @@ IsCountedField f = (words_of_field (field_shape f) ≡ field_words f) × (1 ≤ 
 array_words : (n : ℤ) → is_length n ≡ true → (cast_unsigned w64 n ≡ length_words n)
     × (1 ≤ length_words n)
 array_words (pos n) e =
-    let one : 1 ≤ n = le_from 1 n (and_parts (nat_le 1 n) (nat_le n 512) e).0 in
-    let most : n ≤ 512 = le_from n 512 (and_parts (nat_le 1 n) (nat_le n 512) e).1 in
+    let one : 1 ≤ n = le_from 1 n (and_parts (nat_le 1 n) (nat_le n ARRAY_LENGTH) e).0 in
+    let most : n ≤ ARRAY_LENGTH = le_from n ARRAY_LENGTH
+    (and_parts (nat_le 1 n) (nat_le n ARRAY_LENGTH) e).1 in
     rw e (small n most, one)
   where
-    small : (n : ℕ) → n ≤ 512 → cast_unsigned w64 (pos n) ≡ n
+    small : (n : ℕ) → n ≤ ARRAY_LENGTH → cast_unsigned w64 (pos n) ≡ n
     small n le = refl
 array_words (negsuc n) e = absurd (false≢true e)
 
@@ -90,13 +93,13 @@ fields_counted t names i (f ∷ fs) e =
     added w a b c d e one two = omega (arith, e, one, two)
 
 -- a struct whose counted words are few has no more words
-counted_words : (w n m : ℕ) → nat_le (min w (2 ^ 64 - 1)) n ≡ true → n ≤ 512 → w ≤ n
+counted_words : (w n m : ℕ) → nat_le (min w (2 ^ 64 - 1)) n ≡ true → n ≤ ROOT_WORDS → w ≤ n
 counted_words w n m e le = let small : min w (2 ^ 64 - 1) ≤ n = le_from (min w (2 ^ 64 - 1)) n e in
     omega (arith, small, le)
 
 pub struct_words : (t : Tables) (s : StructTree) (n : ℕ)
     → fields_broken t (field_names s) 0 s.fields ≡ [] → nat_le (counted.words_of_struct s) n ≡ true
-    → n ≤ 512 → words_of (map field_shape s.fields) ≤ n
+    → n ≤ ROOT_WORDS → words_of (map field_shape s.fields) ≤ n
 struct_words t s n e small le =
     let same = fields_counted t (field_names s) 0 s.fields e in
     let few : words_from (field_names s) 0 s.fields ≤ n =
@@ -104,56 +107,77 @@ struct_words t s n e small le =
     omega (arith, same.0, few)
 
 -- a numbered struct is one of the structs, and its counted words are few
-pub numbered_one : (ss : List StructTree) (k : ℕ) (s : StructTree)
-    → slice_get (numbered ss) k ≡ Some s → (j : ℕ) × (slice_get ss j ≡ Some s)
-    × (nat_le (counted.words_of_struct s) 15 ≡ true)
-numbered_one [] k s is = absurd (none-some s is)
-numbered_one (x ∷ ss) k s is =
-    by_test (nat_le (counted.words_of_struct x) 15) refl (λ j at. later (numbered_one ss j s at)) k
-    is
+few_words : (n : ℕ) (root : Option ℕ) (i : ℕ) → nat_le n (pointed_limit root i) ≡ true
+    → nat_le n OBJECT_WORDS ≡ true
+few_words n root i e = by_limit (pointed_limit root i) (limit_small root i)
+    (le_from n (pointed_limit root i) e)
   where
-    later : (j : ℕ) × (slice_get ss j ≡ Some s) × (nat_le (counted.words_of_struct s) 15 ≡ true)
-        → (j : ℕ) × (slice_get (x ∷ ss) j ≡ Some s) × (nat_le (counted.words_of_struct s) 15 ≡ true)
+    by_limit : (m : ℕ) → m ≤ OBJECT_WORDS → n ≤ m → nat_le n OBJECT_WORDS ≡ true
+    by_limit m few le = le_true n OBJECT_WORDS (omega (arith, few, le))
+
+pub numbered_one : (root : Option ℕ) (i : ℕ) (ss : List StructTree) (k : ℕ) (s : StructTree)
+    → slice_get (numbered root i ss) k ≡ Some s → (j : ℕ) × (slice_get ss j ≡ Some s)
+    × (nat_le (counted.words_of_struct s) OBJECT_WORDS ≡ true)
+numbered_one root i [] k s is = absurd (none-some s is)
+numbered_one root i (x ∷ ss) k s is =
+    by_test (nat_le (counted.words_of_struct x) (pointed_limit root i)) refl
+    (λ j at. later (numbered_one root (i + 1) ss j s at)) k is
+  where
+    later : (j : ℕ) × (slice_get ss j ≡ Some s)
+        × (nat_le (counted.words_of_struct s) OBJECT_WORDS ≡ true)
+        → (j : ℕ) × (slice_get (x ∷ ss) j ≡ Some s)
+        × (nat_le (counted.words_of_struct s) OBJECT_WORDS ≡ true)
     later h = (suc h.0, h.1, h.2)
 
-    by_test : (b : Bool) → nat_le (counted.words_of_struct x) 15 ≡ b
-        → ((j : ℕ) → slice_get (numbered ss) j ≡ Some s → (j : ℕ) × (slice_get (x ∷ ss) j ≡ Some s)
-        × (nat_le (counted.words_of_struct s) 15 ≡ true))
-        → (k : ℕ) → slice_get (if b then x ∷ numbered ss else numbered ss) k ≡ Some s
-        → (j : ℕ) × (slice_get (x ∷ ss) j ≡ Some s) × (nat_le (counted.words_of_struct s) 15 ≡ true)
-    by_test true at rest zero is = let same : x ≡ s = same_Some x s is in
-        (0, is, subst (λ (y : StructTree). nat_le (counted.words_of_struct y) 15 ≡ true) same at)
+    by_test : (b : Bool) → nat_le (counted.words_of_struct x) (pointed_limit root i) ≡ b
+        → ((j : ℕ) → slice_get (numbered root (i + 1) ss) j ≡ Some s
+        → (j : ℕ) × (slice_get (x ∷ ss) j ≡ Some s)
+        × (nat_le (counted.words_of_struct s) OBJECT_WORDS ≡ true))
+        → (k : ℕ) → slice_get (if b then x ∷ numbered root (i + 1) ss
+        else numbered root (i + 1) ss) k ≡ Some s → (j : ℕ) × (slice_get (x ∷ ss) j ≡ Some s)
+        × (nat_le (counted.words_of_struct s) OBJECT_WORDS ≡ true)
+    by_test true at rest zero is =
+        let same : x ≡ s = same_Some x s is in (
+          0,
+          is,
+          subst (λ (y : StructTree). nat_le (counted.words_of_struct y) OBJECT_WORDS ≡ true)
+              same (few_words (counted.words_of_struct x) root i at),
+        )
     by_test true at rest (suc k) is = rest k is
     by_test false at rest k is = rest k is
 
-pub numbered_few : (ss : List StructTree) → length (numbered ss) ≤ length ss
-numbered_few [] = omega arith
-numbered_few (x ∷ ss) = by_test (nat_le (counted.words_of_struct x) 15) (numbered_few ss)
+pub numbered_few : (root : Option ℕ) (i : ℕ) (ss : List StructTree)
+    → length (numbered root i ss) ≤ length ss
+numbered_few root i [] = omega arith
+numbered_few root i (x ∷ ss) =
+    by_test (nat_le (counted.words_of_struct x) (pointed_limit root i))
+    (numbered_few root (i + 1) ss)
   where
-    by_test : (b : Bool) → length (numbered ss) ≤ length ss
-        → length (if b then x ∷ numbered ss else numbered ss) ≤ suc (length ss)
+    by_test : (b : Bool) → length (numbered root (i + 1) ss) ≤ length ss
+        → length (if b then x ∷ numbered root (i + 1) ss else numbered root (i + 1) ss)
+        ≤ suc (length ss)
     by_test true rest = omega (arith, rest)
     by_test false rest = omega (arith, rest)
 
--- the root's struct is counted as having at most 512 words
+-- the root's struct is counted as having few enough words
 pub root_counted : (t : Tables) (i : ℕ) (s : StructTree) → root_struct t ≡ Some i
-    → whole_struct_broken t i s ≡ [] → nat_le (counted.words_of_struct s) 512 ≡ true
+    → whole_struct_broken t i s ≡ [] → nat_le (counted.words_of_struct s) ROOT_WORDS ≡ true
 root_counted t i s is e =
     let root : Bool = is_first (root_struct t) i in
     let own : struct_broken t i s ≡ [] =
     none_left (struct_broken t i s) (fields_broken t (field_names s) 0 s.fields) e in
-    let third : unless (root || nat_le (counted.words_of_struct s) 15) s.name.place
+    let third : unless (root || nat_le (counted.words_of_struct s) OBJECT_WORDS) s.name.place
     (TooBig limit.Struct (counted.words_of_struct s))
-    ++ unless (not root || nat_le (counted.words_of_struct s) 512) s.name.place
+    ++ unless (not root || nat_le (counted.words_of_struct s) ROOT_WORDS) s.name.place
     (TooBig limit.Root (counted.words_of_struct s)) ≡ [] =
     none_right (unless (not (nat_eq i 255)) s.name.place (TooBig limit.Structs 256)) _
     (none_right (unless (is_first (struct_named t s.name.text) i) s.name.place Twice) _ own) in
-    let last : (not root || nat_le (counted.words_of_struct s) 512) ≡ true =
-    holds (not root || nat_le (counted.words_of_struct s) 512) s.name.place
+    let last : (not root || nat_le (counted.words_of_struct s) ROOT_WORDS) ≡ true =
+    holds (not root || nat_le (counted.words_of_struct s) ROOT_WORDS) s.name.place
     (TooBig limit.Root (counted.words_of_struct s))
-    (none_right (unless (root || nat_le (counted.words_of_struct s) 15) s.name.place
+    (none_right (unless (root || nat_le (counted.words_of_struct s) OBJECT_WORDS) s.name.place
     (TooBig limit.Struct (counted.words_of_struct s))) _ third) in
-    where_root root (nat_le (counted.words_of_struct s) 512) (ap (λ o. is_first o i) is
+    where_root root (nat_le (counted.words_of_struct s) ROOT_WORDS) (ap (λ o. is_first o i) is
     ∙ same i) last
   where
     same : (i : ℕ) → nat_eq i i ≡ true

@@ -21,13 +21,14 @@ use Rattle.ir.specs.Places.{instruction_at}
 use Rattle.code_meaning.specs.Calls.{CallsNoTransaction}
 use Rattle.code_meaning.specs.Constants.{HasWordConstants}
 use Rattle.lower.specs.Program.{lowered_function, lowered}
+use Rattle.pool_map.specs.declared.limits.TheConstants.{OBJECT_WORDS, ROOT_WORDS}
 
--- at most 255 structs have numbers, each of them has at most 15 words, and the root has at most 512
+-- at most 255 structs have numbers, and the words of each of them and of the root are limited
 pub record AreSmall (shapes : Shapes) : Type 0 where
   pub few : length shapes.structs ≤ 255
   pub short : (k : ℕ) (shape : StructShape) → slice_get shapes.structs k ≡ Some shape
-      → words_of shape.fields ≤ 15
-  pub root : words_of shapes.root ≤ 512
+      → words_of shape.fields ≤ OBJECT_WORDS
+  pub root : words_of shapes.root ≤ ROOT_WORDS
 
 abbrev pub ShapesLaw : Type 0
 ShapesLaw = (tree : Program) → breaks tree ≡ [] → AreSmall (shapes_of tree)
