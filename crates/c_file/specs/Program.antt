@@ -5,6 +5,7 @@ use Rattle.std.specs.Prelude.{ℤ}
 use Rattle.std.specs.Fmt.{decimal}
 use Rattle.nvm_base.specs.Operations.{unsigned}
 use Rattle.pool_layout.specs.declared.limits.Sizes.{Sizes}
+use Rattle.pool_layout.specs.Sizes.{slot_words}
 use Rattle.pool_layout.specs.declared.wanted.Wanted.{Wanted}
 use Rattle.pm_machine.specs.declared.op.Function.{Function}
 use Rattle.pm_machine.specs.Checked.{most_registers}
@@ -21,14 +22,15 @@ use Rattle.c_file.specs.Pieces.{worded_from}
 unfoldable pub number_line : List ℕ → ℕ → List ℕ
 number_line name n = name ++ (decimal n ++ codes ",\n")
 
-unfoldable pub four_sizes : (slots records root_words ticks : ℕ) → List ℕ
-four_sizes slots records root_words ticks =
+unfoldable pub five_sizes : (slots records root_words slot_words ticks : ℕ) → List ℕ
+five_sizes slots records root_words slot_words ticks =
     number_line (codes "    CN_SLOTS = ") slots ++ (number_line (codes "    CN_LOG = ") records
     ++ (number_line (codes "    CN_ROOT = ") root_words
-    ++ number_line (codes "    CN_TICKS = ") ticks))
+    ++ (number_line (codes "    CN_SLOT = ") slot_words
+    ++ number_line (codes "    CN_TICKS = ") ticks)))
 
 abbrev pub sizes_text : Sizes → List ℕ
-sizes_text s = four_sizes s.slots s.records s.root_words s.ticks
+sizes_text s = five_sizes s.slots s.records s.root_words (slot_words s) s.ticks
 
 unfoldable pub counts_text : (txs structs registers : ℕ) → List ℕ
 counts_text txs structs registers =

@@ -1,13 +1,14 @@
 //! Free slots, heap words, records and dirty lines.
 
 /// The part of the C file that finds and frees slots.
-pub const HEAP: &str = r#"/* -- Free slots, as three levels of bits. Slots are counted from 1. */
+pub const HEAP: &str = r#"/* -- Free slots, as four levels of bits. Slots are counted from 1. */
 
 static inline void cn_slot_freed(struct cn_pool *p, uint64_t slot) {
     uint64_t s = slot - 1;
     p->kept->free_slots[s / 64] |= UINT64_C(1) << (s % 64);
     p->kept->free_groups[s / 4096] |= UINT64_C(1) << (s / 64 % 64);
-    p->kept->free_blocks |= UINT64_C(1) << (s / 4096);
+    p->kept->free_blocks[s / 262144] |= UINT64_C(1) << (s / 4096 % 64);
+    p->kept->free_areas |= UINT64_C(1) << (s / 262144);
 }
 
 static inline void cn_slot_taken(struct cn_pool *p, uint64_t slot) {
@@ -16,7 +17,9 @@ static inline void cn_slot_taken(struct cn_pool *p, uint64_t slot) {
     if (p->kept->free_slots[s / 64] != 0) return;
     p->kept->free_groups[s / 4096] &= ~(UINT64_C(1) << (s / 64 % 64));
     if (p->kept->free_groups[s / 4096] != 0) return;
-    p->kept->free_blocks &= ~(UINT64_C(1) << (s / 4096));
+    p->kept->free_blocks[s / 262144] &= ~(UINT64_C(1) << (s / 4096 % 64));
+    if (p->kept->free_blocks[s / 262144] != 0) return;
+    p->kept->free_areas &= ~(UINT64_C(1) << (s / 262144));
 }
 
 /* the number of the lowest bit; some bit is set */
@@ -24,8 +27,9 @@ static inline uint64_t cn_lowest(uint64_t bits) { return (uint64_t)__builtin_ctz
 
 /* FIND: the least slot whose header is 0, or 0 */
 static inline uint64_t cn_find(struct cn_pool *p) {
-    if (p->kept->free_blocks == 0) return 0;
-    uint64_t block = cn_lowest(p->kept->free_blocks);
+    if (p->kept->free_areas == 0) return 0;
+    uint64_t area = cn_lowest(p->kept->free_areas);
+    uint64_t block = 64 * area + cn_lowest(p->kept->free_blocks[area]);
     uint64_t group = 64 * block + cn_lowest(p->kept->free_groups[block]);
     return 64 * group + cn_lowest(p->kept->free_slots[group]) + 1;
 }

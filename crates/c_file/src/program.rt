@@ -2,7 +2,7 @@
 
 ghost use Rattle.std.specs.Prelude.{◌≡◌, ◌++◌, ◌<◌, ◌^◌, OnOk, flat_map};
 ghost use Rattle.pm_machine.specs.Checked.{most_registers};
-ghost use Rattle.c_file.specs.Program.{number_line, four_sizes, sizes_text, counts_text};
+ghost use Rattle.c_file.specs.Program.{number_line, five_sizes, sizes_text, counts_text};
 ghost use Rattle.c_file.specs.Program.{digest_line, parameters_item, flag, flag_item, looks_item};
 ghost use Rattle.c_file.specs.Program.{tables_text};
 ghost use Rattle.c_file.specs.Program.{digest_number, digest_item, numbers_text, case_head};
@@ -65,20 +65,23 @@ fn push_number(alloc: Global, text: &mut Text, name: &str, n: u64) -> Result<(),
     text.push(piece.as_str())
 }
 
-#[tactic(auto, unfolding(crate::specs::Program::four_sizes))]
-fn push_four(
+#[tactic(auto, unfolding(crate::specs::Program::five_sizes))]
+fn push_five(
     alloc: Global,
     text: &mut Text,
     slots: u64,
     records: u64,
     root_words: u64,
+    slot_words: u64,
     ticks: u64,
 ) -> Result<(), AllocError>
-    ensures { OnOk result (text.new ≡ text.old ++ four_sizes slots records root_words ticks) }
+    ensures { OnOk result (text.new
+        ≡ text.old ++ five_sizes slots records root_words slot_words ticks) }
 {
     push_number(alloc, text, "    CN_SLOTS = ", slots)?;
     push_number(alloc, text, "    CN_LOG = ", records)?;
     push_number(alloc, text, "    CN_ROOT = ", root_words)?;
+    push_number(alloc, text, "    CN_SLOT = ", slot_words)?;
     push_number(alloc, text, "    CN_TICKS = ", ticks)?;
     Ok(())
 }
@@ -86,12 +89,13 @@ fn push_four(
 fn push_sizes(alloc: Global, text: &mut Text, sizes: &Sizes) -> Result<(), AllocError>
     ensures { OnOk result (text.new ≡ text.old ++ sizes_text sizes.now) }
 {
-    push_four(
+    push_five(
         alloc,
         text,
         sizes.slots(),
         sizes.records(),
         sizes.root_words(),
+        sizes.slot_words(),
         sizes.ticks(),
     )
 }

@@ -25,15 +25,14 @@ enum {
     CN_HEAP_LINE = CN_RECORD + CN_LOG,
     CN_ROOT_LINES = (CN_ROOT + 7) / 8,
     CN_FIRST = 8 * CN_ROOT_LINES,    /* the heap word of slot 1's header */
-    CN_SLOT = 16,                    /* words of a slot: its header and 15 fields */
-    CN_HEAP_LINES = CN_ROOT_LINES + 2 * CN_SLOTS,
+    CN_HEAP_LINES = CN_ROOT_LINES + CN_SLOT / 8 * CN_SLOTS,
     CN_HEAP = 8 * CN_HEAP_LINES,     /* the number of heap words */
     CN_LINES = CN_HEAP_LINE + CN_HEAP_LINES,
-    CN_BYTES = 64 * CN_LINES,
     CN_GROUPS = CN_SLOTS / 64 + 1,   /* of 64 slots each */
     CN_PLACE_BITS = 64 - __builtin_clzll(2 * CN_LOG - 1),
     CN_PLACES = 1 << CN_PLACE_BITS   /* the least power of two with two places for each record */
 };
+#define CN_BYTES (UINT64_C(64) * CN_LINES)
 #define CN_STACK (UINT64_C(256) * (16 * CN_REGISTERS + 512))
 #define CN_MAGIC UINT64_C(5498700876356144707)
 #define CN_NUMBERS (UINT64_C(1) << 62)
@@ -49,8 +48,9 @@ struct cn_kept {
     uint32_t dirty[CN_HEAP_LINES];
     unsigned char is_dirty[CN_HEAP_LINES];
     struct cn_place places[CN_PLACES]; /* what an earlier run put there counts as nothing */
-    /* free slots: a bit for each slot, for 64 of them, and for 4096 of them */
-    uint64_t free_slots[CN_GROUPS], free_groups[CN_GROUPS / 64 + 1], free_blocks;
+    /* free slots: a bit for each slot, for 64 of them, for 4096, and for 262144 of them */
+    uint64_t free_slots[CN_GROUPS], free_groups[CN_GROUPS / 64 + 1];
+    uint64_t free_blocks[CN_GROUPS / 4096 + 1], free_areas;
 };
 
 /* A pool that is open. All but its words is volatile, and made anew at each opening. */

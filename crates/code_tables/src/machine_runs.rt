@@ -449,7 +449,7 @@ fn first_wrong(
 #[test]
 fn programs(rt: HostRuntime) -> Result<(), Fail> {
     let alloc = rt.alloc();
-    let Some(sizes) = Sizes::new(2, 64, 5, 400) else {
+    let Some(sizes) = Sizes::new(2, 64, 5, 16, 400) else {
         return Ok(());
     };
     let code = program(alloc)?;

@@ -13,6 +13,7 @@ use Rattle.pool_map.specs.declared.trap.TrapKind.{TrapKind}
 use Rattle.pool_map.specs.declared.trap.TrapKind.TheVariants as kinds
 use Rattle.pool_map.specs.Trap.{trap_number}
 use Rattle.pool_layout.specs.declared.limits.Sizes.{Sizes}
+use Rattle.pool_layout.specs.Sizes.{slot_words}
 use Rattle.ir.specs.declared.instruction.Target.{Target}
 use Rattle.ir.specs.declared.instruction.Target.TheVariants.{Root, Field}
 use Rattle.ir.specs.declared.instruction.Instruction.{Instruction}
@@ -22,7 +23,9 @@ use Rattle.pm_alloc.specs.declared.local.Reg.TheVariants.{Own, Temp}
 use Rattle.pm_alloc.specs.declared.local.Local.{Local}
 use Rattle.pm_alloc.specs.declared.local.Local.TheVariants.{Const, Mov, Bin, Jmp, Jz, Load, Store}
 use Rattle.pm_alloc.specs.declared.local.Local.TheVariants.{Find, Log, Tick, Trap}
-use Rattle.pm_alloc.specs.Pieces.{offset, store_code, pointer_check, fill_code, new_head, new_code}
+use Rattle.pm_alloc.specs.Pieces.{offset, store_code, pointer_check, fill_code, loop_code}
+use Rattle.pm_alloc.specs.Pieces.{loop_fill}
+use Rattle.pm_alloc.specs.Pieces.{fills_by_loop, filling, new_head, new_code}
 use Rattle.codegen.specs.declared.fields.At.{At}
 use Rattle.codegen.specs.declared.fields.At.TheVariants.{Word, Element}
 use Rattle.codegen.specs.declared.fields.FieldPlace.{FieldPlace}
@@ -121,8 +124,8 @@ address_fine s h r (Root field index) low n long =
     (reach_is_ok r (field_at s.root_words 0 h.root field) index low) long
 address_fine s h r (Field base kind field index) low n long =
     let parts = and_parts (nat_lt base r) (index_below r index) low in
-    object_fine s r base kind (struct_reach h kind field index) n parts.0
-    (reach_is_ok r (struct_place h kind field) index parts.1) long
+    object_fine s r base kind (struct_reach s h kind field index) n parts.0
+    (reach_is_ok r (struct_place s h kind field) index parts.1) long
 
 -- the code after the checks
 load_fine : (r to : ℕ) (o : Option ℤ) → ltb to r ≡ true → (n : ℕ)
@@ -149,20 +152,34 @@ fill_fine s r n b j zero = refl
 fill_fine s r n true j (suc c) = fill_fine s r n true (j + 1) c
 fill_fine s r n false j (suc c) = fill_fine s r n false (j + 1) c
 
+-- a loop of one store, whose jump leads back
+loop_fine : (s : Sizes) (r n : ℕ) (b : Bool) (p : ℕ) → p ≤ n
+    → list_all (fine n r) (loop_code s b p) ≡ true
+loop_fine s r n true p low = let back : leb p n ≡ true = le-leb p n low in rw back refl
+loop_fine s r n false p low = let back : leb p n ≡ true = le-leb p n low in rw back refl
+
+filling_fine : (s : Sizes) (r n c : ℕ) (b d : Bool)
+    → 8 + length (if d then loop_fill s b 8 c else fill_code s b 1 c) + 1 ≤ n
+    → list_all (fine n r) (if d then loop_fill s b 8 c else fill_code s b 1 c) ≡ true
+filling_fine s r n c true true long = loop_fine s r n true 11 (omega arith)
+filling_fine s r n c false true long = loop_fine s r n false 11 (omega arith)
+filling_fine s r n c b false long = fill_fine s r n b 1 c
+
 mov_fine : (r to n : ℕ) → ltb to r ≡ true → list_all (fine n r) (Mov (Own to) (Temp 0) ∷ []) ≡ true
 mov_fine r to n low = rw low refl
 
 new_fine : (s : Sizes) (r to kind c : ℕ) (b : Bool) → ltb to r ≡ true
     → list_all (fine (length (new_code s to kind c b)) r) (new_code s to kind c b) ≡ true
 new_fine s r to kind c b low =
-    let fill : List Local = fill_code s b 1 c in
+    let fill : List Local = filling s b 8 c in
     let tail : List Local = Mov (Own to) (Temp 0) ∷ [] in
     let head : List Local = new_head s kind (length fill) in
     let n : ℕ = length (new_code s to kind c b) in
     let long : 8 + length fill + 1 ≤ n =
     omega (arith, length-append head (fill ++ tail), length-append fill tail) in
     all_both (fine n r) head (fill ++ tail) (head_fine s r kind (length fill) n long)
-    (all_both (fine n r) fill tail (fill_fine s r n b 1 c) (mov_fine r to n low))
+    (all_both (fine n r) fill tail (filling_fine s r n c b (fills_by_loop s c) long)
+    (mov_fine r to n low))
 
 made_fine_if : (s : Sizes) (r to kind c : ℕ) (b d : Bool) → ltb to r ≡ true
     → list_all (fine (length (if d then Trap 2 ∷ [] else new_code s to kind c b)) r)
@@ -173,7 +190,7 @@ made_fine_if s r to kind c b false low = new_fine s r to kind c b low
 made_fine : (s : Sizes) (r to kind : ℕ) (b : Bool) (o : Option ℕ) → ltb to r ≡ true
     → list_all (fine (length (make_words s to kind b o)) r) (make_words s to kind b o) ≡ true
 made_fine s r to kind b None low = refl
-made_fine s r to kind b (Some c) low = made_fine_if s r to kind c b (nat_lt 15 c) low
+made_fine s r to kind b (Some c) low = made_fine_if s r to kind c b (nat_le (slot_words s) c) low
 
 -- the other instructions
 bin_fine_if : (o : BinOp) (r to left right : ℕ) (d : Bool) → ltb to r ≡ true → ltb left r ≡ true
@@ -222,7 +239,7 @@ local_fine s h r b (ir.Store t from line) low =
     joined r (address_code s h t) (store_at b from (address_offset s h t))
     (address_fine s h r t parts.1) (store_fine r from b (address_offset s h t) parts.0)
 local_fine s h r b (ir.New to kind fill line) low =
-    made_fine s r to kind fill (object_words h kind) low
+    made_fine s r to kind fill (object_words s h kind) low
 local_fine s h r b (ir.Free from kind line) low =
     joined r (pointer_check s from kind)
     (Const (Temp 1) (pos 0) ∷ store_code true (Temp 0) (offset s 0) (Temp 1)) (λ n long.

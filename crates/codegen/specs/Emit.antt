@@ -14,6 +14,7 @@ use Rattle.nvm_base.specs.declared.op.BinOp.TheVariants.{Urem, Ushr}
 use Rattle.pool_map.specs.declared.shapes.Shapes.{Shapes}
 use Rattle.pool_map.specs.Trap.{trap_number}
 use Rattle.pool_layout.specs.declared.limits.Sizes.{Sizes}
+use Rattle.pool_layout.specs.Sizes.{slot_words}
 use Rattle.ir.specs.declared.instruction.Target.{Target}
 use Rattle.ir.specs.declared.instruction.Target.TheVariants.{Root, Field}
 use Rattle.ir.specs.declared.instruction.Instruction.{Instruction}
@@ -63,11 +64,12 @@ object_offset s reach = option_map (λ (r : Reach). offset s (sum r.first 1)) re
 abbrev pub address_code : Sizes → Shapes → Target → List Local
 address_code s h (Root field index) = root_code (root_reach s h field index)
 address_code s h (Field base kind field index) =
-    object_code s base kind (struct_reach h kind field index)
+    object_code s base kind (struct_reach s h kind field index)
 
 abbrev pub address_offset : Sizes → Shapes → Target → Option ℤ
 address_offset s h (Root field index) = root_offset (root_reach s h field index)
-address_offset s h (Field base kind field index) = object_offset s (struct_reach h kind field index)
+address_offset s h (Field base kind field index) =
+    object_offset s (struct_reach s h kind field index)
 
 -- the code after the checks
 abbrev pub load_at : ℕ → Option ℤ → List Local
@@ -89,7 +91,7 @@ make_words s to kind b None = Trap 2 ∷ []
 make_words s to kind b (Some c) = new_or_trap s to kind c b
 
 abbrev pub make_code : Sizes → Shapes → (to kind : ℕ) → Bool → List Local
-make_code s h to kind b = make_words s to kind b (object_words h kind)
+make_code s h to kind b = make_words s to kind b (object_words s h kind)
 
 abbrev pub divides : BinOp → Bool
 divides Div = true
@@ -221,9 +223,10 @@ txs_from f [] = []
 txs_from f (u ∷ us) = tx_of f u ++ txs_from (f + 1) us
 
 -- A number of steps that no run exceeds, for a program of q tokens: 80 for each instruction, of
--- which at most 40 are its own and 40 flush the lines that it makes dirty.
+-- which at most 40 are its own and 40 flush the lines that it makes dirty, and 20 for each word of
+-- a slot past the 16th, for the fill of a new object.
 abbrev pub most_steps : Sizes → ℕ → ℕ
-most_steps s q = 256 * (s.ticks + 1) * (64 * q + 256) * 80
+most_steps s q = 256 * (s.ticks + 1) * (64 * q + 256) * (80 + 20 * (slot_words s - 16))
 
 -- the parts of the image of a program of q tokens, for a pool of sizes s
 abbrev pub parts_of : Ir → Sizes → (q : ℕ) → ImageParts

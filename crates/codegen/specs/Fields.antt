@@ -12,6 +12,7 @@ use Rattle.codegen.specs.declared.fields.FieldPlace.{FieldPlace}
 use Rattle.codegen.specs.declared.fields.At.{At}
 use Rattle.codegen.specs.declared.fields.At.TheVariants.{Word, Element}
 use Rattle.codegen.specs.declared.fields.Reach.{Reach}
+use Rattle.pool_layout.specs.Sizes.{slot_words}
 
 -- the word after a field that begins at word n
 abbrev pub word_after_field : (limit n : ℕ) → FieldShape → Option ℕ
@@ -50,14 +51,19 @@ reach (Some place) index = option_map (λ (a : At). record { first = place.first
 abbrev pub root_reach : Sizes → Shapes → ℕ → Option ℕ → Option Reach
 root_reach s shapes field index = reach (field_at s.root_words 0 shapes.root field) index
 
--- a slot has room for 15 words
-abbrev pub struct_place : Shapes → (kind field : ℕ) → Option FieldPlace
-struct_place shapes kind field = option_and_then (λ (u : StructShape). field_at 15 0 u.fields field)
+-- a slot has room for its words but the header
+abbrev pub room : Sizes → ℕ
+room s = slot_words s - 1
+
+abbrev pub struct_place : Sizes → Shapes → (kind field : ℕ) → Option FieldPlace
+struct_place s shapes kind field =
+    option_and_then (λ (u : StructShape). field_at (room s) 0 u.fields field)
     (struct_at shapes.structs kind)
 
-abbrev pub struct_reach : Shapes → (kind field : ℕ) → Option ℕ → Option Reach
-struct_reach shapes kind field index = reach (struct_place shapes kind field) index
+abbrev pub struct_reach : Sizes → Shapes → (kind field : ℕ) → Option ℕ → Option Reach
+struct_reach s shapes kind field index = reach (struct_place s shapes kind field) index
 
-abbrev pub object_words : Shapes → ℕ → Option ℕ
-object_words shapes kind = option_and_then (λ (u : StructShape). words_from 15 0 u.fields)
+abbrev pub object_words : Sizes → Shapes → ℕ → Option ℕ
+object_words s shapes kind =
+    option_and_then (λ (u : StructShape). words_from (room s) 0 u.fields)
     (struct_at shapes.structs kind)

@@ -96,7 +96,7 @@ pub fn push_address(
             sizes,
             base,
             kind,
-            struct_reach(shapes, kind, field, index),
+            struct_reach(sizes, shapes, kind, field, index),
         ),
     }
 }

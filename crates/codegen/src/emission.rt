@@ -59,7 +59,7 @@ fn most_steps(sizes: &Sizes, tokens: u64) -> u128
 {
     let ticks = 256 * u128::from(sizes.ticks() + 1);
     let code = 64 * u128::from(tokens) + 256;
-    ticks * code * 80
+    ticks * code * u128::from(80 + 20 * (sizes.slot_words() - 16))
 }
 
 fn image_parts(alloc: Global, ir: &Ir, sizes: &Sizes, tokens: u64) -> Result<ImageParts, AllocError>

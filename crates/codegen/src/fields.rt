@@ -112,12 +112,19 @@ fn struct_shape(shapes: &Shapes, kind: u32) -> Option<&StructShape>
     shapes.structs.as_slice().get(kind as usize - 1)
 }
 
+/// How many field words a slot has room for.
+fn room(sizes: &Sizes) -> u32
+    ensures { result ≡ definitions.room sizes.now }
+{
+    (sizes.slot_words() - 1) as u32
+}
+
 /// The number of words of a struct, if it exists and a slot has room for it.
-pub fn struct_words(shapes: &Shapes, kind: u32) -> Option<u32>
-    ensures { result ≡ object_words shapes.now kind }
+pub fn struct_words(sizes: &Sizes, shapes: &Shapes, kind: u32) -> Option<u32>
+    ensures { result ≡ object_words sizes.now shapes.now kind }
 {
     let shape = struct_shape(shapes, kind)?;
-    words_of(15, shape.fields.as_slice())
+    words_of(room(sizes), shape.fields.as_slice())
 }
 
 /// The place that a field of the root means, if it exists.
@@ -128,16 +135,22 @@ pub fn root_reach(sizes: &Sizes, shapes: &Shapes, field: u32, index: Option<u32>
     reach_of(place, index)
 }
 
-fn struct_place(shapes: &Shapes, kind: u32, field: u32) -> Option<FieldPlace>
-    ensures { result ≡ definitions.struct_place shapes.now kind field }
+fn struct_place(sizes: &Sizes, shapes: &Shapes, kind: u32, field: u32) -> Option<FieldPlace>
+    ensures { result ≡ definitions.struct_place sizes.now shapes.now kind field }
 {
     let shape = struct_shape(shapes, kind)?;
-    field_place(15, shape.fields.as_slice(), field)
+    field_place(room(sizes), shape.fields.as_slice(), field)
 }
 
 /// The place that a field of a struct means, if it exists.
-pub fn struct_reach(shapes: &Shapes, kind: u32, field: u32, index: Option<u32>) -> Option<Reach>
-    ensures { result ≡ definitions.struct_reach shapes.now kind field index }
+pub fn struct_reach(
+    sizes: &Sizes,
+    shapes: &Shapes,
+    kind: u32,
+    field: u32,
+    index: Option<u32>,
+) -> Option<Reach>
+    ensures { result ≡ definitions.struct_reach sizes.now shapes.now kind field index }
 {
-    reach_of(struct_place(shapes, kind, field), index)
+    reach_of(struct_place(sizes, shapes, kind, field), index)
 }

@@ -97,7 +97,7 @@ fn push_make(
 ) -> Result<(), AllocError>
     ensures { OnOk result (piece.new ≡ piece.old ++ make_code sizes.now shapes.now to kind logged) }
 {
-    match struct_words(shapes, kind) {
+    match struct_words(sizes, shapes, kind) {
         None => piece.push(Local::Trap(2)),
         Some(words) => push_new(piece, sizes, to, kind, u64::from(words), logged),
     }

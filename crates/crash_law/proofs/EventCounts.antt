@@ -67,10 +67,12 @@ sizes_72 =
       slots = 1;
       records = 2;
       root_words = 2;
+      slot_lines = 2;
       ticks = 1;
       slots_fit = omega arith;
       records_fit = omega arith;
       root_words_fit = omega arith;
+      slot_fits = omega arith;
       ticks_fit = omega arith;
     }
 

@@ -77,7 +77,7 @@ object_looks s base kind (Some r) =
 address_looks : (s : Sizes) (h : Shapes) (t : Target) → PieceLooks (address_code s h t)
 address_looks s h (Root field index) = root_looks (root_reach s h field index)
 address_looks s h (Field base kind field index) =
-    object_looks s base kind (struct_reach h kind field index)
+    object_looks s base kind (struct_reach s h kind field index)
 
 load_looks : (to : ℕ) (o : Option ℤ) → PieceLooks (load_at to o)
 load_looks to None = refl

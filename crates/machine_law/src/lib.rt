@@ -11,7 +11,7 @@ ghost use Rattle.machine_law.specs.emitted.Pairs.{EmitsPairs, PairedLaw};
 ghost use Rattle.machine_law.specs.emitted.Placed.{PlacedLaw};
 ghost use Rattle.machine_law.specs.emitted.Returns.{ReturnLaw};
 ghost use Rattle.machine_law.specs.emitted.Standing.{StandsLaw};
-ghost use Rattle.machine_law.specs.emitted.Steps.{ForwardCode, ForwardLaw};
+ghost use Rattle.machine_law.specs.emitted.Steps.{ForwardCode, ForwardLaw, SettlesLaw};
 ghost use Rattle.machine_law.specs.emitted.Tidy.{TidyLaw};
 ghost use Rattle.machine_law.specs.emitted.TidyCode.{EmitsTidy, SoundRunLaw};
 ghost use Rattle.machine_law.specs.pieces.Law.{PieceLaw};
@@ -55,12 +55,14 @@ pub fn sound_law()
     ensures run { SoundRunLaw }
 {}
 
-/// Each instruction that stays in its function has a piece of at most 39 instructions that only
-/// leads forward; from any place of such a piece the machine reaches the place after it, or an end,
-/// in at most as many steps as the piece has instructions left.
+/// Each instruction that stays in its function, and fills no object by a loop, has a piece that
+/// only leads forward, of at most 39 instructions for slots of 16 words; from any place of such a
+/// piece the machine reaches the place after it, or an end, in at most as many steps as the piece
+/// has instructions left. From the start of each piece it does so too, also where it has a loop.
 pub fn forward_law()
     ensures code { ForwardCode }
     ensures run { ForwardLaw }
+    ensures settles { SettlesLaw }
 {}
 
 /// FLUSH, FENCE and HALT flush each dirty line once, in order, fence and halt, in three steps more
@@ -96,8 +98,9 @@ pub fn pools_law()
     ensures words { WordsLaw }
 {}
 
-/// From states that match, one step of the code and at most 40 steps of the machine (and, at an
-/// end, one more for each dirty line) lead to states that match, or to the same end.
+/// From states that match, one step of the code and at most 40 steps of the machine, or more where
+/// slots are wider (and, at an end, one more for each dirty line), lead to states that match, or to
+/// the same end.
 pub fn step_law()
     ensures { MatchLaw }
 {}

@@ -2,16 +2,17 @@
 use Rattle.std.proofs.Common.{◌≡◌, ℕ, zero, suc, ◌+◌, ◌-◌, ◌*◌, ◌^◌, ◌<◌, ◌≤◌, ℤ, pos}
 use Rattle.std.proofs.Common.{Bool, true, false, Option, Some, None, List, [], ◌∷◌, ◌++◌, length}
 use Rattle.std.proofs.Common.{refl, ap, subst, arith}
-use Rattle.std.specs.Prelude.{FitsSigned, nat_le, nat_lt, if◌then◌else◌, option_map, ◌==◌}
+use Rattle.std.specs.Prelude.{FitsSigned, nat_le, if◌then◌else◌, option_map, ◌==◌}
 use Rattle.std.specs.Prelude.{option_and_then, unwrap_or}
 use Rattle.std.specs.Int.{w64}
 use Rattle.std.specs.List.{AllByRecursion}
-use Rattle.std.proofs.lemmas.Bool.{leb-true, ltb-false}
+use Rattle.std.proofs.lemmas.Bool.{leb-true, leb-false}
 use Rattle.std.proofs.lemmas.Int.{ints}
 use Rattle.std.proofs.lemmas.Option.{slice_get_within}
 use Rattle.nvm_base.specs.declared.op.BinOp.{BinOp}
+use Rattle.nvm_base.specs.declared.op.BinOp.TheVariants.{Add, Eq}
 use Rattle.pool_layout.specs.declared.limits.Sizes.{Sizes}
-use Rattle.pool_layout.specs.Sizes.{root_lines}
+use Rattle.pool_layout.specs.Sizes.{root_lines, slot_words}
 use Rattle.pool_map.specs.declared.shapes.FieldShape.{FieldShape}
 use Rattle.pool_map.specs.declared.shapes.StructShape.{StructShape}
 use Rattle.pool_map.specs.declared.shapes.Shapes.{Shapes}
@@ -26,14 +27,15 @@ use Rattle.pm_alloc.specs.declared.local.Local.{Local}
 use Rattle.pm_alloc.specs.declared.local.Local.TheVariants.{Const, Mov, Bin, Jmp, Jz, Load, Store}
 use Rattle.pm_alloc.specs.declared.local.Local.TheVariants.{Find, Log, Tick, Trap}
 use Rattle.pm_alloc.specs.Pieces.{offset, store_code, pointer_check, index_check, fill_code}
-use Rattle.pm_alloc.specs.Pieces.{new_head, new_code, free_code}
+use Rattle.pm_alloc.specs.Pieces.{fills_by_loop, loop_code, loop_fill, filling, new_head, new_code}
+use Rattle.pm_alloc.specs.Pieces.{free_code}
 use Rattle.pm_alloc.specs.Placing.{sum}
 use Rattle.codegen.specs.declared.fields.At.{At}
 use Rattle.codegen.specs.declared.fields.At.TheVariants.{Word, Element}
 use Rattle.codegen.specs.declared.fields.FieldPlace.{FieldPlace}
 use Rattle.codegen.specs.declared.fields.Reach.{Reach}
 use Rattle.codegen.specs.Fields.{field_at, place_at, element_at, reach}
-use Rattle.codegen.specs.Fields.{root_reach, struct_place, struct_reach, object_words}
+use Rattle.codegen.specs.Fields.{root_reach, room, struct_place, struct_reach, object_words}
 use Rattle.codegen.specs.Emit.{at_code, root_code, root_offset, object_code, object_offset}
 use Rattle.codegen.specs.Emit.{address_code, address_offset, load_at, store_at}
 use Rattle.codegen.specs.Emit.{make_words, divides, local_code}
@@ -62,11 +64,18 @@ joined (x ∷ xs) ys h rest = (h.0, joined xs ys h.1 rest)
 number_fits : (n : ℕ) → n < 2 ^ 63 → FitsSigned w64 (pos n)
 number_fits n low = record { sfits = omega (arith, low) }
 
+-- a slot has few words
+width_few : (s : Sizes) → slot_words s ≤ 512
+width_few s = omega (arith, s.slot_fits.1)
+
+width_fits : (s : Sizes) → FitsSigned w64 (pos (slot_words s))
+width_fits s = number_fits (slot_words s) (omega (arith, width_few s))
+
 offset_fits : (s : Sizes) (j : ℕ) → j < 2 ^ 32 → FitsSigned w64 (offset s j)
 offset_fits s j low =
     let words = s.root_words_fit.1 in
     let lines : 8 * root_lines s < 2 ^ 32 = omega (arith, words) in
-    omega (arith, ints, low, lines)
+    omega (arith, ints, low, lines, width_few s)
 
 store_fits : (b : Bool) (x : Reg) (o : ℤ) (a : Reg) → FitsSigned w64 o
     → AllFit (store_code b x o a)
@@ -77,10 +86,9 @@ pointer_fits : (s : Sizes) (p kind : ℕ) → kind ≤ 255 → AllFit (pointer_c
 pointer_fits s p kind few =
     let slots = s.slots_fit.1 in
     let past = number_fits (s.slots + 1) (omega (arith, slots)) in
-    let width = number_fits 16 (omega arith) in
     let header = offset_fits s 0 (omega arith) in
     let number = number_fits kind (omega (arith, few)) in
-    (tt, (past, (tt, (tt, (width, (tt, (header, (number, (tt, (tt, (tt, (tt, tt))))))))))))
+    (tt, (past, (tt, (tt, (width_fits s, (tt, (header, (number, (tt, (tt, (tt, (tt, tt))))))))))))
 
 index_fits : (at i len : ℕ) → len < 2 ^ 63 → AllFit (index_check at i len)
 index_fits at i len low = (number_fits len low, (tt, (tt, (tt, (tt, (tt, tt))))))
@@ -92,17 +100,33 @@ fill_fits s b j (suc c) low =
     (store_fits b (Temp 1) (offset s j) (Temp 6) (offset_fits s j (omega (arith, low))))
     (fill_fits s b (j + 1) c (omega (arith, low)))
 
-new_fits : (s : Sizes) (to kind c : ℕ) (b : Bool) → kind ≤ 255 → c ≤ 15
+loop_fits : (s : Sizes) (b : Bool) (p : ℕ) → AllFit (loop_code s b p)
+loop_fits s b p =
+    joined (store_code b (Temp 1) (offset s 1) (Temp 6))
+    (Bin Add (Temp 1) (Temp 1) (Temp 4) ∷ Bin Eq (Temp 2) (Temp 1) (Temp 3) ∷ Jz (Temp 2) p ∷ [])
+    (store_fits b (Temp 1) (offset s 1) (Temp 6) (offset_fits s 1 (omega arith)))
+    (tt, (tt, (tt, tt)))
+
+filling_fits : (s : Sizes) (b : Bool) (p c : ℕ) → c < slot_words s → AllFit (filling s b p c)
+filling_fits s b p c short = go (fills_by_loop s c)
+  where
+    go : (t : Bool) → AllFit (if t then loop_fill s b p c else fill_code s b 1 c)
+    go true = (
+      number_fits 1 (omega arith),
+      (number_fits c (omega (arith, short, width_few s)), (tt, loop_fits s b (p + 3))),
+    )
+    go false = fill_fits s b 1 c (omega (arith, short, width_few s))
+
+new_fits : (s : Sizes) (to kind c : ℕ) (b : Bool) → kind ≤ 255 → c < slot_words s
     → AllFit (new_code s to kind c b)
 new_fits s to kind c b few short =
-    let fill = fill_code s b 1 c in
-    let width = number_fits 16 (omega arith) in
+    let fill = filling s b 8 c in
     let none = number_fits 0 (omega arith) in
     let number = number_fits kind (omega (arith, few)) in
     let header = offset_fits s 0 (omega arith) in
     joined (new_head s kind (length fill)) (fill ++ Mov (Own to) (Temp 0) ∷ [])
-    (tt, (tt, (width, (tt, (number, (header, (header, (none, tt))))))))
-    (joined fill (Mov (Own to) (Temp 0) ∷ []) (fill_fits s b 1 c (omega (arith, short))) (tt, tt))
+    (tt, (tt, (width_fits s, (tt, (number, (header, (header, (none, tt))))))))
+    (joined fill (Mov (Own to) (Temp 0) ∷ []) (filling_fits s b 8 c short) (tt, tt))
 
 free_fits : (s : Sizes) (p kind : ℕ) → kind ≤ 255 → AllFit (free_code s p kind)
 free_fits s p kind few =
@@ -190,7 +214,7 @@ MayFit (Some o) = FitsSigned w64 o
 abbrev AddressFits : List Local → Option ℤ → Type 0
 AddressFits code o = AllFit code × MayFit o
 
-root_fits : (limit : ℕ) (o : Option Reach) → limit ≤ 512
+root_fits : (limit : ℕ) (o : Option Reach) → limit ≤ 65536
     → ((r : Reach) → o ≡ Some r → IsShort limit r) → AddressFits (root_code o) (root_offset o)
 root_fits limit None low short = ((tt, tt), tt)
 root_fits limit (Some r) low short =
@@ -201,15 +225,17 @@ root_fits limit (Some r) low short =
     )
 
 object_fits : (s : Sizes) (base kind : ℕ) (o : Option Reach)
-    → ((r : Reach) → o ≡ Some r → IsShort 15 r × (kind ≤ 255))
+    → ((r : Reach) → o ≡ Some r → IsShort (room s) r × (kind ≤ 255))
     → AddressFits (object_code s base kind o) (object_offset s o)
 object_fits s base kind None short = ((tt, tt), tt)
 object_fits s base kind (Some r) short =
     let within = (short r refl).0 in
     let first = within.first in
-    let one : sum r.first 1 < 2 ^ 32 = omega (arith, first) in (
+    let low : room s < 2 ^ 31 = omega (arith, width_few s) in
+    let one : sum r.first 1 < 2 ^ 32 = omega (arith, first, low) in (
       joined (pointer_check s base kind) (at_code 12 r.at)
-          (pointer_fits s base kind (short r refl).1) (at_fits 15 12 r.at (omega arith) within.at),
+          (pointer_fits s base kind (short r refl).1)
+          (at_fits (room s) 12 r.at (omega (arith, low)) within.at),
       offset_fits s (sum r.first 1) one,
     )
 
@@ -221,25 +247,25 @@ kind_within structs (suc i) u e = slice_get_within structs i u e
 module _ (s : Sizes) (h : Shapes) (few : length h.structs ≤ 255) where
   struct_short : (kind field : ℕ) (o : Option StructShape) → struct_at h.structs kind ≡ o
       → (place : FieldPlace)
-      → option_and_then (λ (u : StructShape). field_at 15 0 u.fields field) o ≡ Some place
-      → IsWithinWords 15 place × (kind ≤ 255)
+      → option_and_then (λ (u : StructShape). field_at (room s) 0 u.fields field) o ≡ Some place
+      → IsWithinWords (room s) place × (kind ≤ 255)
   struct_short kind field None found place e = absurd (cc)
   struct_short kind field (Some u) found place e =
       let low = kind_within h.structs kind u found in
-      (within_words 15 0 u.fields field place e, omega (arith, low, few))
+      (within_words (room s) 0 u.fields field place e, omega (arith, low, few))
 
   kind_few : (kind field : ℕ) (index : Option ℕ) (o : Option FieldPlace)
-      → struct_place h kind field ≡ o → (r : Reach) → reach o index ≡ Some r → kind ≤ 255
+      → struct_place s h kind field ≡ o → (r : Reach) → reach o index ≡ Some r → kind ≤ 255
   kind_few kind field index None is r e = absurd (cc)
   kind_few kind field index (Some place) is r e =
       (struct_short kind field (struct_at h.structs kind) refl place is).1
 
   struct_reach_short : (kind field : ℕ) (index : Option ℕ) (r : Reach)
-      → struct_reach h kind field index ≡ Some r → IsShort 15 r × (kind ≤ 255)
+      → struct_reach s h kind field index ≡ Some r → IsShort (room s) r × (kind ≤ 255)
   struct_reach_short kind field index r e = (
-    reach_short 15 (struct_place h kind field) index r (λ place is.
+    reach_short (room s) (struct_place s h kind field) index r (λ place is.
         (struct_short kind field (struct_at h.structs kind) refl place is).0) e,
-    kind_few kind field index (struct_place h kind field) refl r e,
+    kind_few kind field index (struct_place s h kind field) refl r e,
   )
 
   address_fits : (t : Target) → AddressFits (address_code s h t) (address_offset s h t)
@@ -248,7 +274,7 @@ module _ (s : Sizes) (h : Shapes) (few : length h.structs ≤ 255) where
       (λ r e. reach_short s.root_words (field_at s.root_words 0 h.root field) index r
       (λ place is. within_words s.root_words 0 h.root field place is) e)
   address_fits (Field base kind field index) =
-      object_fits s base kind (struct_reach h kind field index)
+      object_fits s base kind (struct_reach s h kind field index)
       (λ r e. struct_reach_short kind field index r e)
 
   load_fits : (to : ℕ) (o : Option ℤ) → MayFit o → AllFit (load_at to o)
@@ -259,15 +285,15 @@ module _ (s : Sizes) (h : Shapes) (few : length h.structs ≤ 255) where
   assign_fits b from None f = tt
   assign_fits b from (Some o) f = store_fits b (Temp 0) o (Own from) f
 
-  make_by : (to kind c : ℕ) (b t : Bool) → nat_lt 15 c ≡ t → kind ≤ 255
+  make_by : (to kind c : ℕ) (b t : Bool) → nat_le (slot_words s) c ≡ t → kind ≤ 255
       → AllFit (if t then Trap 2 ∷ [] else new_code s to kind c b)
   make_by to kind c b true e low = (tt, tt)
-  make_by to kind c b false e low = new_fits s to kind c b low (ltb-false 15 c e)
+  make_by to kind c b false e low = new_fits s to kind c b low (leb-false (slot_words s) c e)
 
   words_fit : (to kind : ℕ) (b : Bool) (o : Option ℕ) → kind ≤ 255
       → AllFit (make_words s to kind b o)
   words_fit to kind b None low = (tt, tt)
-  words_fit to kind b (Some c) low = make_by to kind c b (nat_lt 15 c) refl low
+  words_fit to kind b (Some c) low = make_by to kind c b (nat_le (slot_words s) c) refl low
 
   bin_fits : (o : BinOp) (to left right : ℕ) (t : Bool)
       → AllFit (if t then Jz (Own right) 2 ∷ Jmp 3 ∷ Trap 4
@@ -293,7 +319,7 @@ module _ (s : Sizes) (h : Shapes) (few : length h.structs ≤ 255) where
   locals_fit b (ir.Store t from line) f =
       joined (address_code s h t) (store_at b from (address_offset s h t)) (address_fits t).0
       (assign_fits b from (address_offset s h t) (address_fits t).1)
-  locals_fit b (ir.New to kind fill line) f = words_fit to kind fill (object_words h kind) f
+  locals_fit b (ir.New to kind fill line) f = words_fit to kind fill (object_words s h kind) f
   locals_fit b (ir.Free from kind line) f = free_fits s from kind f
   locals_fit b ir.Tick f = (tt, tt)
   locals_fit b (ir.Trap kind) f = (tt, tt)

@@ -1,15 +1,16 @@
 -- The checks of a pointer, and the code of `pm_free`.
 use Rattle.std.proofs.Common.{◌≡◌, ℕ, zero, suc, ◌+◌, ◌-◌, ◌*◌, ◌^◌, ◌≤◌, Bool, true, false}
 use Rattle.std.proofs.Common.{List, [], ◌∷◌, ◌++◌, ℤ, pos, negsuc, refl, arith, ltb, subst}
+use Rattle.std.proofs.Common.{mul_comm}
 use Rattle.std.specs.Prelude.{◌+ℤ◌, ◌==◌, if◌then◌else◌}
 use Rattle.std.specs.Int.{w64, int_wrap}
-use Rattle.std.proofs.lemmas.Bool.{lt-ltb, le-ltb, ltb-true}
+use Rattle.std.proofs.lemmas.Bool.{le-ltb, ltb-true}
 use Rattle.std.proofs.lemmas.Int.{ints}
 use Rattle.nvm_base.specs.Operations.{unsigned}
 use Rattle.nvm_base.specs.Wrap.{IsWord}
 use Rattle.cache_model.specs.Cache.{Words}
 use Rattle.pool_layout.specs.declared.limits.Sizes.{Sizes}
-use Rattle.pool_layout.specs.Sizes.{heap_words, slot_word}
+use Rattle.pool_layout.specs.Sizes.{heap_words, slot_words, slot_word}
 use Rattle.pm_alloc.specs.declared.local.Reg.TheVariants.{Temp}
 use Rattle.pm_alloc.specs.declared.local.Local.{Local}
 use Rattle.pm_alloc.specs.declared.local.Local.TheVariants.{Const}
@@ -20,8 +21,8 @@ use Rattle.pm_alloc.specs.Search.{IsPool}
 use Rattle.pm_alloc.specs.Free.{Looked, Null, Outside, Other, Is, by_header, look, header_seen}
 use Rattle.pm_alloc.specs.Free.{Checked, PointerLaw, Freed, FreeLaw}
 use Rattle.pm_alloc.proofs.Runs.{run_on}
-use Rattle.pm_alloc.proofs.Search.{small, header_address}
-use Rattle.pm_alloc.proofs.New.{with_log}
+use Rattle.pm_alloc.proofs.Fills.{with_log}
+use Rattle.pm_alloc.proofs.Search.{header_address, header_within, slot_times}
 
 module _ (s : Sizes) (p kind : ℕ) (rest : List Local) (own x : ℕ → ℤ) (w : World)
     (pool : IsPool s) where
@@ -49,32 +50,32 @@ module _ (s : Sizes) (p kind : ℕ) (rest : List Local) (own x : ℕ → ℤ) (w
   is_outside n some e high =
       run_on (local_step s (pointer_check s p kind ++ rest)) 1 4 start _ _ some (rw (e, high) refl)
 
-  -- a pointer in range: 16 times its slot, before the header is loaded
+  -- a pointer in range: W times its slot, before the header is loaded
   in_bounds : (n : ℕ) → own p ≡ pos (suc n) → ltb (suc n) (s.slots + 1) ≡ true
-      → go 6 start ≡ Goes (loc 6 (pos (suc n * 16)) (pos (s.slots + 1)) (pos 1) w)
+      → go 6 start ≡ Goes (loc 6 (pos (suc n * slot_words s)) (pos (s.slots + 1)) (pos 1) w)
   in_bounds n e high =
       let few = ltb-true (suc n) (s.slots + 1) high in
-      let at : int_wrap w64 (pos (suc n * 16)) ≡ pos (suc n * 16) =
-      small (suc n * 16) (omega (arith, pool.few)) in
+      let at : int_wrap w64 (pos (suc n * slot_words s)) ≡ pos (suc n * slot_words s) =
+      slot_times s (suc n) (omega (arith, few)) in
       rw (e, e, high, e, at) refl
 
   -- the header
   header_loaded : (n : ℕ) → ltb (suc n) (s.slots + 1) ≡ true
-      → go 2 (loc 6 (pos (suc n * 16)) (pos (s.slots + 1)) (pos 1) w)
-      ≡ Goes (loc 8 (pos (suc n * 16)) (w.heap (slot_word s (suc n))) (pos kind)
+      → go 2 (loc 6 (pos (suc n * slot_words s)) (pos (s.slots + 1)) (pos 1) w)
+      ≡ Goes (loc 8 (pos (suc n * slot_words s)) (w.heap (slot_word s (suc n))) (pos kind)
       (header_seen s w (suc n)))
   header_loaded n high =
       let few = ltb-true (suc n) (s.slots + 1) high in
-      let at : int_wrap w64 (pos (suc n * 16) +ℤ offset s 0) ≡ pos (slot_word s (suc n)) =
-      header_address s (suc n) (suc n * 16) (omega arith) (omega arith) (omega (arith, pool.few))
-      pool.lines in
+      let at : int_wrap w64 (pos (suc n * slot_words s) +ℤ offset s 0) ≡ pos (slot_word s (suc n)) =
+      header_address s (suc n) (suc n * slot_words s) pool (mul_comm (suc n) (slot_words s))
+      (omega arith) (omega (arith, few)) in
       let within : ltb (slot_word s (suc n)) (heap_words s) ≡ true =
-      lt-ltb (slot_word s (suc n)) (heap_words s) (omega arith) in
+      header_within s (suc n) (omega arith) (omega (arith, few)) in
       rw (at, within) refl
 
   to_test : (n : ℕ) → own p ≡ pos (suc n) → ltb (suc n) (s.slots + 1) ≡ true
-      → go 8 start ≡ Goes (loc 8 (pos (suc n * 16)) (w.heap (slot_word s (suc n))) (pos kind)
-      (header_seen s w (suc n)))
+      → go 8 start ≡ Goes (loc 8 (pos (suc n * slot_words s)) (w.heap (slot_word s (suc n)))
+      (pos kind) (header_seen s w (suc n)))
   to_test n e high = run_on (local_step s (pointer_check s p kind ++ rest)) 6 2 start _ _
       (in_bounds n e high) (header_loaded n high)
 
@@ -153,18 +154,18 @@ module _ (s : Sizes) (p kind : ℕ) (own x : ℕ → ℤ) (w : World) (pool : Is
   freed_if n (Other q) few among e = (n, omega arith, e)
   freed_if n (Is q) few among f =
       let slot = among q refl in
-      let at : int_wrap w64 (pos (q * 16) +ℤ offset s 0) ≡ pos (slot_word s q) =
-      header_address s q (q * 16) (omega arith) slot.low (omega (arith, slot.high, pool.few))
-      pool.lines in
+      let at : int_wrap w64 (pos (q * slot_words s) +ℤ offset s 0) ≡ pos (slot_word s q) =
+      header_address s q (q * slot_words s) pool (mul_comm q (slot_words s)) slot.low slot.high in
       let within : ltb (slot_word s q) (heap_words s) ≡ true =
-      lt-ltb (slot_word s q) (heap_words s) (omega (arith, slot.low, slot.high)) in
-      let write = with_log s (free_code s p kind) own (pos (q * 16) ∷ pos 0 ∷ f.1 ∷ x 3 ∷ x 4 ∷ x 5
-      ∷ x 6 ∷ x 7 ∷ []) 13 (slot_word s q) (header_seen s w q) (Temp 0) (Temp 1) (offset s 0) refl
+      header_within s q slot.low slot.high in
+      let write = with_log s (free_code s p kind) own
+      (pos (q * slot_words s) ∷ pos 0 ∷ f.1 ∷ x 3 ∷ x 4 ∷ x 5 ∷ x 6 ∷ x 7 ∷ []) 13
+      (slot_word s q) (header_seen s w q) (Temp 0) (Temp 1) (offset s 0) refl
       refl at within in (
         n + 1 + 2,
         omega arith,
         (
-          pos (q * 16) ∷ pos 0 ∷ f.1 ∷ x 3 ∷ x 4 ∷ x 5 ∷ x 6 ∷ x 7 ∷ [],
+          pos (q * slot_words s) ∷ pos 0 ∷ f.1 ∷ x 3 ∷ x 4 ∷ x 5 ∷ x 6 ∷ x 7 ∷ [],
           run_on (local_step s (free_code s p kind)) (n + 1) 2 _ _ _
               (run_on (local_step s (free_code s p kind)) n 1 _ _ _ f.2 refl) write,
         ),

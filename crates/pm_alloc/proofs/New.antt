@@ -1,244 +1,240 @@
 -- The code of a new object, after the search.
-use Rattle.std.proofs.Common.{◌≡◌, ℕ, zero, suc, ◌+◌, ◌*◌, ◌≤◌, Bool, true, false, List, []}
-use Rattle.std.proofs.Common.{◌∷◌, ◌++◌, length, Some, ℤ, pos, refl, sym, ap, ◌∙◌, subst, arith}
-use Rattle.std.proofs.Common.{ltb, append_assoc, length-append, get_or}
-use Rattle.std.specs.Prelude.{◌+ℤ◌, slice_get}
+use Rattle.std.proofs.Common.{◌≡◌, ℕ, zero, suc, ◌+◌, ◌-◌, ◌*◌, ◌<◌, ◌≤◌, Bool, true, false, List}
+use Rattle.std.proofs.Common.{[], ◌∷◌, ◌++◌, length, ℤ, pos, refl, ap, ◌∙◌, arith, ltb, get_or}
+use Rattle.std.proofs.Common.{length-append, mul_comm}
+use Rattle.std.specs.Prelude.{◌+ℤ◌, if◌then◌else◌, nat_lt}
 use Rattle.std.specs.Int.{w64, int_wrap}
-use Rattle.std.proofs.lemmas.Bool.{lt-ltb}
+use Rattle.std.proofs.lemmas.Bool.{ltb-true, and_parts}
 use Rattle.cache_model.specs.Cache.{Words, put}
 use Rattle.pool_layout.specs.declared.limits.Sizes.{Sizes}
-use Rattle.pool_layout.specs.Sizes.{heap_words, slot_word}
+use Rattle.pool_layout.specs.Sizes.{heap_words, slot_words, slot_word}
 use Rattle.pm_machine.specs.Find.{least}
-use Rattle.pm_alloc.specs.declared.local.Reg.{Reg}
+use Rattle.pm_alloc.specs.declared.objects.TheConstants.{UNROLLED_SLOT}
 use Rattle.pm_alloc.specs.declared.local.Reg.TheVariants.{Own, Temp}
 use Rattle.pm_alloc.specs.declared.local.Local.{Local}
-use Rattle.pm_alloc.specs.declared.local.Local.TheVariants.{Mov, Store, Log}
-use Rattle.pm_alloc.specs.Pieces.{offset, fill_code, new_head, new_code}
+use Rattle.pm_alloc.specs.declared.local.Local.TheVariants.{Mov}
+use Rattle.pm_alloc.specs.Pieces.{offset, fill_code, loop_code, loop_fill, fills_by_loop, filling}
+use Rattle.pm_alloc.specs.Pieces.{new_head, new_code}
 use Rattle.pm_alloc.specs.Runs.{Next, Goes, local_run}
-use Rattle.pm_alloc.specs.LocalRun.{World, Loc, local_read, local_stored, logged, searched}
-use Rattle.pm_alloc.specs.LocalRun.{local_step}
-use Rattle.pm_alloc.specs.Search.{IsPool}
+use Rattle.pm_alloc.specs.LocalRun.{World, Loc, searched, local_step}
+use Rattle.pm_alloc.specs.Search.{temporaries, IsPool}
 use Rattle.pm_alloc.specs.New.{wrote, zeroed, world_after_new, NewCodeLaw}
+use Rattle.pm_alloc.proofs.Fills.{Here, here_all, here_back, with_log, fill_run, loop_run}
 use Rattle.pm_alloc.proofs.Runs.{run_on}
-use Rattle.pm_alloc.proofs.Search.{small, address_is, header_address, searched_least, least_within}
+use Rattle.pm_alloc.proofs.Search.{small, header_address, header_within, slot_times}
+use Rattle.pm_alloc.proofs.Search.{searched_least, least_within}
+use Rattle.pm_alloc.proofs.Slots.{slot_few}
 
--- these instructions come here, one after another
-abbrev pub Here : List Local → ℕ → List Local → Type 0
-Here frag p [] = Unit {0}
-Here frag p (i ∷ is) = (slice_get frag p ≡ Some i) × Here frag (p + 1) is
-
-get_seam : (pre is : List Local) (i : Local) → slice_get (pre ++ i ∷ is) (length pre) ≡ Some i
-get_seam [] is i = refl
-get_seam (j ∷ pre) is i = get_seam pre is i
-
-pub here_all : (is pre : List Local) → Here (pre ++ is) (length pre) is
-here_all [] pre = tt
-here_all (i ∷ is) pre =
-    let n : length (pre ++ i ∷ []) ≡ length pre + 1 = omega (arith, length-append pre (i ∷ [])) in
-    let rest = subst (λ (l : List Local). Here l (length (pre ++ i ∷ [])) is)
-    (append_assoc pre (i ∷ []) is) (here_all is (pre ++ i ∷ [])) in
-    (get_seam pre is i, subst (λ (m : ℕ). Here (pre ++ i ∷ is) m is) n rest)
-
-pub here_back : (frag : List Local) (p : ℕ) (a b : List Local) → Here frag p (a ++ b)
-    → Here frag (p + length a) b
-here_back frag p [] b h = let e : p ≡ p + 0 = omega arith in subst (λ (n : ℕ). Here frag n b) e h
-here_back frag p (i ∷ a) b h =
-    let e : p + 1 + length a ≡ p + length (i ∷ a) = omega arith in
-    subst (λ (n : ℕ). Here frag n b) e (here_back frag (p + 1) a b h.1)
-
-module _ (s : Sizes) (frag : List Local) (own : Words) (temp : List ℤ) where
-  abbrev pub loc : ℕ → World → Loc
-  loc p w = record { at = p; own = own; temp = temp; world = w }
-
-  abbrev pub go : ℕ → Loc → Next World Loc
-  go n l = local_run (local_step s frag) n l
-
-  plain : (p q : ℕ) (w : World) (x a : Reg) (o : ℤ) → slice_get frag p ≡ Some (Store x o a)
-      → int_wrap w64 (local_read own temp x +ℤ o) ≡ pos q → ltb q (heap_words s) ≡ true
-      → go 1 (loc p w) ≡ Goes (loc (p + 1) (local_stored w q (local_read own temp a)))
-  plain p q w x a o here at within = rw (here, at, within) refl
-
-  note : (p q : ℕ) (w : World) (x : Reg) (o : ℤ) → slice_get frag p ≡ Some (Log x o)
-      → int_wrap w64 (local_read own temp x +ℤ o) ≡ pos q → ltb q (heap_words s) ≡ true
-      → go 1 (loc p w) ≡ Goes (loc (p + 1) (logged w q))
-  note p q w x o here at within = rw (here, at, within) refl
-
-  pub with_log : (p q : ℕ) (w : World) (x a : Reg) (o : ℤ) → slice_get frag p ≡ Some (Log x o)
-      → slice_get frag (p + 1) ≡ Some (Store x o a) → int_wrap w64 (local_read own temp x +ℤ o)
-      ≡ pos q → ltb q (heap_words s) ≡ true
-      → go 2 (loc p w) ≡ Goes (loc (p + 1 + 1) (wrote true w q (local_read own temp a)))
-  with_log p q w x a o here next at within =
-      run_on (local_step s frag) 1 1 _ _ _ (note p q w x o here at within)
-      (plain (p + 1) q (logged w q) x a o next at within)
-
-  -- the fill: temporary 1 is 16 times the slot, temporary 6 is 0
-  fill_run : (b : Bool) (c j p q slot : ℕ) (w : World) (rest : List Local) → IsPool s → 1 ≤ slot
-      → slot ≤ s.slots → Here frag p (fill_code s b j c ++ rest) → q ≡ slot_word s slot + j
-      → j + c ≤ 16 → get_or temp 1 (pos 0) ≡ pos (16 * slot)
-      → get_or temp 6 (pos 0) ≡ pos 0 → (n : ℕ) × (n ≤ 2 * c)
-      × (go n (loc p w) ≡ Goes (loc (p + length (fill_code s b j c)) (zeroed b w q c)))
-  fill_run b zero j p q slot w rest pool low high here is short e1 e6 =
-      (0, omega arith, ap (λ (n : ℕ). Goes (loc n w)) (omega arith))
-  fill_run false (suc c) j p q slot w rest pool low high here is short e1 e6 =
-      let at : int_wrap w64 (get_or temp 1 (pos 0) +ℤ offset s j) ≡ pos q =
-      ap (λ (z : ℤ). int_wrap w64 (z +ℤ offset s j)) e1
-      ∙ address_is s slot j low (omega (arith, pool.few)) pool.lines (omega arith)
-      ∙ ap pos (sym is) in
-      let within : ltb q (heap_words s) ≡ true = lt-ltb q (heap_words s) (omega arith) in
-      let first : go 1 (loc p w) ≡ Goes (loc (p + 1) (local_stored w q (pos 0))) =
-      plain p q w (Temp 1) (Temp 6) (offset s j) here.0 at within
-      ∙ ap (λ (z : ℤ). Goes (loc (p + 1) (local_stored w q z))) e6 in
-      let next = fill_run false c (j + 1) (p + 1) (q + 1) slot (local_stored w q (pos 0)) rest pool
-      low high here.1 (omega arith) (omega arith) e1 e6 in
-      let last : p + 1 + length (fill_code s false (j + 1) c) ≡ p
-      + length (fill_code s false j (suc c)) = omega arith in (
-        1 + next.0,
-        omega (arith, next.1),
-        run_on (local_step s frag) 1 next.0 _ _ _ first next.2
-            ∙ ap (λ (n : ℕ). Goes (loc n (zeroed false w q (suc c)))) last,
-      )
-  fill_run true (suc c) j p q slot w rest pool low high here is short e1 e6 =
-      let at : int_wrap w64 (get_or temp 1 (pos 0) +ℤ offset s j) ≡ pos q =
-      ap (λ (z : ℤ). int_wrap w64 (z +ℤ offset s j)) e1
-      ∙ address_is s slot j low (omega (arith, pool.few)) pool.lines (omega arith)
-      ∙ ap pos (sym is) in
-      let within : ltb q (heap_words s) ≡ true = lt-ltb q (heap_words s) (omega arith) in
-      let first : go 2 (loc p w) ≡ Goes (loc (p + 1 + 1) (wrote true w q (pos 0))) =
-      with_log p q w (Temp 1) (Temp 6) (offset s j) here.0 here.1.0 at within
-      ∙ ap (λ (z : ℤ). Goes (loc (p + 1 + 1) (wrote true w q z))) e6 in
-      let next = fill_run true c (j + 1) (p + 1 + 1) (q + 1) slot (wrote true w q (pos 0)) rest pool
-      low high here.1.1 (omega arith) (omega arith) e1 e6 in
-      let last : p + 1 + 1 + length (fill_code s true (j + 1) c) ≡ p
-      + length (fill_code s true j (suc c)) = omega arith in (
-        2 + next.0,
-        omega (arith, next.1),
-        run_on (local_step s frag) 2 next.0 _ _ _ first next.2
-            ∙ ap (λ (n : ℕ). Goes (loc n (zeroed true w q (suc c)))) last,
-      )
-
-module _ (s : Sizes) (to kind c : ℕ) (b : Bool) (own : Words) (x : ℕ → ℤ) (w : World)
-    (pool : IsPool s) (few : c ≤ 15) where
-  abbrev go_new : ℕ → Loc → Next World Loc
-  go_new n l = local_run (local_step s (new_code s to kind c b)) n l
-
+module _ (s : Sizes) (to kind c : ℕ) (b : Bool) (own : Words) (x : ℕ → ℤ) (pool : IsPool s)
+    (short : c < slot_words s) where
   abbrev at_loc : ℕ → Words → List ℤ → World → Loc
   at_loc p regs temp w = record { at = p; own = regs; temp = temp; world = w }
 
-  -- where a search that finds q continues
-  abbrev found : ℕ → Loc
-  found q = at_loc 1 own (pos q ∷ x 1 ∷ x 2 ∷ x 3 ∷ x 4 ∷ x 5 ∷ x 6 ∷ x 7 ∷ []) (searched s w)
+  abbrev last : List Local
+  last = Mov (Own to) (Temp 0) ∷ []
 
-  on : (i j : ℕ) (l m : Loc) (r : Next World Loc) → go_new i l ≡ Goes m → go_new j m ≡ r
-      → go_new (i + j) l ≡ r
-  on i j l m r e f = run_on (local_step s (new_code s to kind c b)) i j l m r e f
+  -- the registers with slot q, after its header was stored
+  abbrev made : ℕ → List ℤ
+  made q = pos q ∷ pos (slot_words s * q) ∷ x 2 ∷ x 3 ∷ x 4 ∷ pos kind ∷ pos 0 ∷ x 7 ∷ []
 
-  whole : 8 + length (fill_code s b 1 c) + 1 ≡ length (new_code s to kind c b)
-  whole = omega (arith, length-append (fill_code s b 1 c) (Mov (Own to) (Temp 0) ∷ []))
+  -- from place 8 of a piece with a fill, the fill stores zeros and keeps the slot
+  record FillRuns (fill frag : List Local) (q : ℕ) (v : World) : Type 0 where
+    steps : ℕ
+    few : steps ≤ 30 + 10 * (slot_words s - 16)
+    temp : List ℤ
+    eight : length temp ≡ 8
+    slot : get_or temp 0 (pos 0) ≡ pos q
+    run : local_run (local_step s frag) steps (at_loc 8 own (made q) v)
+        ≡ Goes (at_loc (8 + length fill) own temp (zeroed b v (slot_word s q + 1) c))
 
-  rest_here : Here (new_code s to kind c b) 8 (fill_code s b 1 c ++ Mov (Own to) (Temp 0) ∷ [])
-  rest_here =
-      here_all (fill_code s b 1 c ++ Mov (Own to) (Temp 0) ∷ [])
-      (new_head s kind (length (fill_code s b 1 c)))
+  abbrev Fills : List Local → Type 0
+  Fills fill = (frag : List Local) (q : ℕ) (v : World) → 1 ≤ q → q ≤ s.slots
+      → Here frag 8 (fill ++ last) → FillRuns fill frag q v
 
-  mov : (temp : List ℤ) (v : World) →
-      go_new 1 (at_loc (8 + length (fill_code s b 1 c)) own temp v)
-      ≡ Goes (at_loc (8 + length (fill_code s b 1 c) + 1) (put own to (get_or temp 0 (pos 0)))
-      temp v)
-  mov temp v =
-      rw (here_back (new_code s to kind c b) 8 (fill_code s b 1 c) (Mov (Own to) (Temp 0) ∷ [])
-      rest_here).0 refl
+  one_by_one : Fills (fill_code s b 1 c)
+  one_by_one frag q v low high here =
+      let r = fill_run s frag own (made q) b c 1 8 (slot_word s q + 1) q v last pool low high here
+      refl (omega arith) refl refl in
+      record {
+        steps = r.0;
+        few = omega (arith, r.1);
+        temp = made q;
+        eight = refl;
+        slot = refl;
+        run = r.2;
+      }
 
-  -- the code from there on ends like this
-  abbrev Done : ℕ → Type 0
-  Done q =
-      (n : ℕ) × (n ≤ 38)
-      × ((temp : List ℤ) × (go_new n (found q)
-      ≡ Goes (at_loc (length (new_code s to kind c b)) (put own to (pos q)) temp
-      (world_after_new s kind c b (searched s w) q))))
+  by_loop : fills_by_loop s c ≡ true → Fills (loop_fill s b 8 c)
+  by_loop e frag q v low high here =
+      let parts = and_parts (nat_lt UNROLLED_SLOT (slot_words s)) (nat_lt 0 c) e in
+      let wide : UNROLLED_SLOT < slot_words s = ltb-true UNROLLED_SLOT (slot_words s) parts.0 in
+      let some : 0 < c = ltb-true 0 c parts.1 in
+      let w : ℕ = slot_words s * q in
+      let sum : int_wrap w64 (pos (c + w)) ≡ pos (c + w) =
+      small (c + w) (omega (arith, slot_few s q high)) in
+      let begun : local_run (local_step s frag) 3 (at_loc 8 own (made q) v)
+      ≡ Goes (at_loc 11 own (pos q ∷ pos w ∷ x 2 ∷ pos (c + w) ∷ pos 1 ∷ pos kind ∷ pos 0 ∷ x 7
+      ∷ []) v) = rw (here.0, here.1.0, here.1.1.0, sum) refl in
+      let r = loop_run s frag last own b 11 q kind (x 7) pool low high here.1.1.1 (c - 1) 0 w
+      (c + w) (slot_word s q + 1) (x 2) v (omega arith) (omega arith) (omega arith) (omega arith) in
+      let more : suc (c - 1) ≡ c = omega arith in
+      let end : List ℤ =
+      pos q ∷ pos (c + w) ∷ pos 1 ∷ pos (c + w) ∷ pos 1 ∷ pos kind ∷ pos 0 ∷ x 7 ∷ [] in
+      let place : 11 + length (loop_code s b 11) ≡ 8 + length (loop_fill s b 8 c) = omega arith in
+      record {
+        steps = 3 + r.0;
+        few = omega (arith, r.1);
+        temp = end;
+        eight = refl;
+        slot = refl;
+        run =
+            run_on (local_step s frag) 3 r.0 _ _ _ begun r.2
+            ∙ ap (λ (n : ℕ). Goes (at_loc (11 + length (loop_code s b 11)) own end
+            (zeroed b v (slot_word s q + 1) n))) more
+            ∙ ap (λ (n : ℕ). Goes (at_loc n own end (zeroed b v (slot_word s q + 1) c))) place;
+      }
 
-  none_left : Done 0
-  none_left = (
-    1 + 1,
-    omega arith,
-    (
-      (found 0).temp,
-      on 1 1 (found 0) (at_loc (8 + length (fill_code s b 1 c)) own (found 0).temp (searched s w)) _
+  fills_if : (d : Bool) → fills_by_loop s c ≡ d
+      → Fills (if d then loop_fill s b 8 c else fill_code s b 1 c)
+  fills_if true e = by_loop e
+  fills_if false e = one_by_one
+
+  module _ (w : World) (fill : List Local) (fills : Fills fill) where
+    abbrev piece : List Local
+    piece = new_head s kind (length fill) ++ (fill ++ last)
+
+    abbrev go_new : ℕ → Loc → Next World Loc
+    go_new n l = local_run (local_step s piece) n l
+
+    -- where a search that finds q continues
+    abbrev found : ℕ → Loc
+    found q = at_loc 1 own (pos q ∷ x 1 ∷ x 2 ∷ x 3 ∷ x 4 ∷ x 5 ∷ x 6 ∷ x 7 ∷ []) (searched s w)
+
+    on : (i j : ℕ) (l m : Loc) (r : Next World Loc) → go_new i l ≡ Goes m → go_new j m ≡ r
+        → go_new (i + j) l ≡ r
+    on i j l m r e f = run_on (local_step s piece) i j l m r e f
+
+    whole : 8 + length fill + 1 ≡ length piece
+    whole = omega (arith, length-append fill last)
+
+    rest_here : Here piece 8 (fill ++ last)
+    rest_here = here_all (fill ++ last) (new_head s kind (length fill))
+
+    mov : (temp : List ℤ) (v : World) →
+        go_new 1 (at_loc (8 + length fill) own temp v)
+        ≡ Goes (at_loc (8 + length fill + 1) (put own to (get_or temp 0 (pos 0))) temp v)
+    mov temp v = rw (here_back piece 8 fill last rest_here).0 refl
+
+    -- the code from there on ends like this
+    record NewDone (q : ℕ) : Type 0 where
+      steps : ℕ
+      few : steps ≤ 38 + 10 * (slot_words s - 16)
+      temp : List ℤ
+      eight : length temp ≡ 8
+      run : go_new steps (found q)
+          ≡ Goes (at_loc (length piece) (put own to (pos q)) temp
+          (world_after_new s kind c b (searched s w) q))
+
+    none_left : NewDone 0
+    none_left = record {
+      steps = 1 + 1;
+      few = omega arith;
+      temp = (found 0).temp;
+      eight = refl;
+      run =
+          on 1 1 (found 0) (at_loc (8 + length fill) own (found 0).temp (searched s w)) _
           refl (mov (found 0).temp (searched s w))
           ∙ ap (λ (p : ℕ). Goes (at_loc p (put own to (pos 0)) (found 0).temp (searched s w)))
-          whole,
-    ),
-  )
+          whole;
+    }
 
-  module _ (r : ℕ) (high : suc r ≤ s.slots) where
-    abbrev q : ℕ
-    q = suc r
+    module _ (r : ℕ) (high : suc r ≤ s.slots) where
+      abbrev q : ℕ
+      q = suc r
 
-    abbrev temp1 : List ℤ
-    temp1 = pos q ∷ pos (16 * q) ∷ x 2 ∷ x 3 ∷ x 4 ∷ pos kind ∷ x 6 ∷ x 7 ∷ []
+      abbrev temp1 : List ℤ
+      temp1 = pos q ∷ pos (slot_words s * q) ∷ x 2 ∷ x 3 ∷ x 4 ∷ pos kind ∷ x 6 ∷ x 7 ∷ []
 
-    abbrev temp2 : List ℤ
-    temp2 = pos q ∷ pos (16 * q) ∷ x 2 ∷ x 3 ∷ x 4 ∷ pos kind ∷ pos 0 ∷ x 7 ∷ []
+      abbrev w1 : World
+      w1 = wrote true (searched s w) (slot_word s q) (pos kind)
 
-    abbrev w1 : World
-    w1 = wrote true (searched s w) (slot_word s q) (pos kind)
+      low : 1 ≤ q
+      low = omega arith
 
-    at_head : int_wrap w64 (pos (16 * q) +ℤ offset s 0) ≡ pos (slot_word s q)
-    at_head = header_address s q (16 * q) refl (omega arith) (omega (arith, pool.few)) pool.lines
+      at_head : int_wrap w64 (pos (slot_words s * q) +ℤ offset s 0) ≡ pos (slot_word s q)
+      at_head = header_address s q (slot_words s * q) pool refl low high
 
-    within : ltb (slot_word s q) (heap_words s) ≡ true
-    within = lt-ltb (slot_word s q) (heap_words s) (omega arith)
+      within : ltb (slot_word s q) (heap_words s) ≡ true
+      within = header_within s q low high
 
-    times : int_wrap w64 (pos (q * 16)) ≡ pos (16 * q)
-    times = small (q * 16) (omega (arith, pool.few)) ∙ ap pos (omega arith)
+      times : int_wrap w64 (pos (q * slot_words s)) ≡ pos (slot_words s * q)
+      times = slot_times s q high ∙ ap pos (mul_comm q (slot_words s))
 
-    to_header : go_new 4 (found q) ≡ Goes (at_loc 5 own temp1 (searched s w))
-    to_header =
-        ap (λ (z : ℤ). Goes (at_loc 5 own (pos q ∷ z ∷ x 2 ∷ x 3 ∷ x 4 ∷ pos kind ∷ x 6 ∷ x 7 ∷ [])
-        (searched s w))) times
+      to_header : go_new 4 (found q) ≡ Goes (at_loc 5 own temp1 (searched s w))
+      to_header =
+          ap (λ (z : ℤ). Goes (at_loc 5 own (pos q ∷ z ∷ x 2 ∷ x 3 ∷ x 4 ∷ pos kind ∷ x 6 ∷ x 7
+          ∷ []) (searched s w))) times
 
-    header : go_new 2 (at_loc 5 own temp1 (searched s w)) ≡ Goes (at_loc 7 own temp1 w1)
-    header =
-        with_log s (new_code s to kind c b) own temp1 5 (slot_word s q) (searched s w) (Temp 1)
-        (Temp 5) (offset s 0) refl refl at_head within
+      header : go_new 2 (at_loc 5 own temp1 (searched s w)) ≡ Goes (at_loc 7 own temp1 w1)
+      header =
+          with_log s piece own temp1 5 (slot_word s q) (searched s w) (Temp 1)
+          (Temp 5) (offset s 0) refl refl at_head within
 
-    to_fill : go_new (4 + 2 + 1) (found q) ≡ Goes (at_loc 8 own temp2 w1)
-    to_fill = on (4 + 2) 1 (found q) _ _ (on 4 2 (found q) _ _ to_header header) refl
+      to_fill : go_new (4 + 2 + 1) (found q) ≡ Goes (at_loc 8 own (made q) w1)
+      to_fill = on (4 + 2) 1 (found q) _ _ (on 4 2 (found q) _ _ to_header header) refl
 
-    filled : (m : ℕ) × (m ≤ 2 * c)
-        × (go_new m (at_loc 8 own temp2 w1)
-        ≡ Goes (at_loc (8 + length (fill_code s b 1 c)) own temp2
-        (zeroed b w1 (slot_word s q + 1) c)))
-    filled =
-        fill_run s (new_code s to kind c b) own temp2 b c 1 8 (slot_word s q + 1) q w1
-        (Mov (Own to) (Temp 0) ∷ []) pool (omega arith) high rest_here refl (omega arith)
-        refl refl
+      slot_made : NewDone (suc r)
+      slot_made =
+          let f = fills piece q w1 low high rest_here in
+          let v : World = zeroed b w1 (slot_word s q + 1) c in
+          record {
+            steps = 4 + 2 + 1 + f.steps + 1;
+            few = omega (arith, f.few);
+            temp = f.temp;
+            eight = f.eight;
+            run =
+                on (4 + 2 + 1 + f.steps) 1 (found q) _ _
+                (on (4 + 2 + 1) f.steps (found q) _ _ to_fill f.run)
+                (mov f.temp v)
+                ∙ ap (λ (z : ℤ). Goes (at_loc (8 + length fill + 1) (put own to z) f.temp v)) f.slot
+                ∙ ap (λ (p : ℕ). Goes (at_loc p (put own to (pos q)) f.temp v)) whole;
+          }
 
-    slot_made : Done (suc r)
-    slot_made = (
-      4 + 2 + 1 + filled.0 + 1,
-      omega (arith, filled.1),
-      (
-        temp2,
-        on (4 + 2 + 1 + filled.0) 1 (found q) _ _
-            (on (4 + 2 + 1) filled.0 (found q) _ _ to_fill filled.2)
-            (mov temp2 (zeroed b w1 (slot_word s q + 1) c))
-            ∙ ap (λ (p : ℕ). Goes (at_loc p (put own to (pos q)) temp2
-            (zeroed b w1 (slot_word s q + 1) c))) whole,
-      ),
-    )
+    all_done : (q : ℕ) → least s w.heap ≡ q → NewDone q
+    all_done zero is = none_left
+    all_done (suc r) is = slot_made r (least_within s w.heap r is)
 
-  all_done : (q : ℕ) → least s w.heap ≡ q → Done q
-  all_done zero is = none_left
-  all_done (suc r) is = slot_made r (least_within s w.heap r is)
+-- the code of a new object, from its start, with eight temporary registers at its end
+pub record NewRun (s : Sizes) (to kind c : ℕ) (b : Bool) (own : Words) (x : ℕ → ℤ) (w : World) :
+    Type 0 where
+  pub steps : ℕ
+  pub few : steps ≤ 39 + 10 * (slot_words s - 16)
+  pub temp : List ℤ
+  pub eight : length temp ≡ 8
+  pub run : local_run (local_step s (new_code s to kind c b)) steps
+      (record { at = 0; own = own; temp = temporaries x; world = w })
+      ≡ Goes (record {
+        at = length (new_code s to kind c b);
+        own = put own to (pos (least s w.heap));
+        temp = temp;
+        world = world_after_new s kind c b (searched s w) (least s w.heap);
+      })
+
+pub new_runs : (s : Sizes) (to kind c : ℕ) (b : Bool) (own : Words) (x : ℕ → ℤ) (w : World)
+    → IsPool s → c < slot_words s → NewRun s to kind c b own x w
+new_runs s to kind c b own x w pool short =
+    let d = all_done s to kind c b own x pool short w (filling s b 8 c)
+    (fills_if s to kind c b own x pool short (fills_by_loop s c) refl) (least s w.heap) refl in
+    record {
+      steps = 1 + d.steps;
+      few = omega (arith, d.few);
+      temp = d.temp;
+      eight = d.eight;
+      run =
+          run_on (local_step s (new_code s to kind c b)) 1 d.steps _ _ _
+          (searched_least s to kind c b own x w) d.run;
+    }
 
 pub new_made : NewCodeLaw
-new_made s to kind c b own x w pool few =
-    let d = all_done s to kind c b own x w pool few (least s w.heap) refl in (
-      1 + d.0,
-      omega (arith, d.1),
-      (
-        d.2.0,
-        run_on (local_step s (new_code s to kind c b)) 1 d.0 _ _ _
-            (searched_least s to kind c b own x w) d.2.1,
-      ),
-    )
+new_made s to kind c b own x w pool short =
+    let d = new_runs s to kind c b own x w pool short in (d.steps, d.few, (d.temp, d.run))

@@ -7,7 +7,7 @@ use Rattle.nvm_base.specs.Operations.{unsigned}
 use Rattle.nvm_base.specs.Wrap.{IsWord}
 use Rattle.cache_model.specs.Cache.{Words}
 use Rattle.pool_layout.specs.declared.limits.Sizes.{Sizes}
-use Rattle.pool_layout.specs.Sizes.{slot_word}
+use Rattle.pool_layout.specs.Sizes.{slot_words, slot_word}
 use Rattle.pm_machine.specs.declared.effect.Effect.TheVariants.{Loads}
 use Rattle.pm_alloc.specs.declared.local.Local.{Local}
 use Rattle.pm_alloc.specs.Pieces.{pointer_check, free_code}
@@ -15,7 +15,6 @@ use Rattle.pm_alloc.specs.Runs.{Goes, Traps, local_run}
 use Rattle.pm_alloc.specs.LocalRun.{World, Loc, see, local_step}
 use Rattle.pm_alloc.specs.Search.{temporaries, IsPool}
 use Rattle.pm_alloc.specs.New.{wrote}
-use Rattle.cache_model.specs.declared.slot.TheConstants.{SLOT_WORDS}
 
 -- what a pointer is: null, no slot, a slot that has no object of the kind, or a slot that has one
 pub data Looked : Type 0 where
@@ -40,7 +39,7 @@ header_seen s w q = see w (Loads (slot_word s q))
 abbrev pub local_start : Words → (ℕ → ℤ) → World → Loc
 local_start own x w = record { at = 0; own = own; temp = temporaries x; world = w }
 
--- the result of the checks; after them temporary 0 holds 16 times the slot
+-- the result of the checks; after them temporary 0 holds W times the slot
 abbrev pub Checked : Sizes → List Local → (own x : ℕ → ℤ) → World → ℕ → Looked → Type 0
 Checked s code own x w n Null = local_run (local_step s code) n (local_start own x w) ≡ Traps 1 w
 Checked s code own x w n Outside = local_run (local_step s code) n (local_start own x w) ≡ Traps 2 w
@@ -51,7 +50,7 @@ Checked s code own x w n (Is q) =
     ≡ Goes (record {
       at = 12;
       own = own;
-      temp = pos (q * SLOT_WORDS) ∷ u ∷ v ∷ x 3 ∷ x 4 ∷ x 5 ∷ x 6 ∷ x 7
+      temp = pos (q * slot_words s) ∷ u ∷ v ∷ x 3 ∷ x 4 ∷ x 5 ∷ x 6 ∷ x 7
           ∷ [];
       world = header_seen s w q;
     }))

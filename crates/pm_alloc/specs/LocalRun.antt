@@ -7,7 +7,7 @@ use Rattle.std.specs.Int.{w64, int_wrap}
 use Rattle.nvm_base.specs.Applied.{applied}
 use Rattle.cache_model.specs.Cache.{Words, put}
 use Rattle.pool_layout.specs.declared.limits.Sizes.{Sizes}
-use Rattle.pool_layout.specs.Sizes.{heap_words, slot_word}
+use Rattle.pool_layout.specs.Sizes.{heap_words, slot_words, slot_word}
 use Rattle.pm_machine.specs.declared.effect.Effect.{Effect}
 use Rattle.pm_machine.specs.declared.effect.Effect.TheVariants.{Loads, Scans, Stores, Logs}
 use Rattle.pm_machine.specs.Find.{least, looks}
@@ -55,7 +55,7 @@ see w e = record { heap = w.heap; seen = e ∷ w.seen; ticks = w.ticks }
 
 -- the headers that a search for a free slot loads
 abbrev pub searched : Sizes → World → World
-searched s w = see w (Scans (slot_word s 1) (looks s w.heap))
+searched s w = see w (Scans (slot_word s 1) (slot_words s) (looks s w.heap))
 
 -- a word stored
 abbrev pub local_stored : World → ℕ → ℤ → World

@@ -1,11 +1,12 @@
 -- The effect of the code of `pm_new`, from its start with any registers: with the least free slot
 -- it logs and stores the header, stores zeros, each logged if the fill is, and gives the slot; if
--- no slot is free it gives 0 and has stored nothing. It takes at most 39 steps, whatever the number
--- of slots.
-use Rattle.std.specs.Prelude.{ℕ, zero, suc, ◌+◌, ◌≤◌, ◌≡◌, Bool, true, false, List, length, ℤ, pos}
+-- no slot is free it gives 0 and has stored nothing. It takes at most 39 steps if a slot has
+-- 16 words, and 10 more for each further word, whatever the number of slots.
+use Rattle.std.specs.Prelude.{ℕ, zero, suc, ◌+◌, ◌-◌, ◌*◌, ◌<◌, ◌≤◌, ◌≡◌, Bool, true, false}
+use Rattle.std.specs.Prelude.{List, length, ℤ, pos}
 use Rattle.cache_model.specs.Cache.{Words, put}
 use Rattle.pool_layout.specs.declared.limits.Sizes.{Sizes}
-use Rattle.pool_layout.specs.Sizes.{slot_word}
+use Rattle.pool_layout.specs.Sizes.{slot_words, slot_word}
 use Rattle.pm_machine.specs.Find.{least}
 use Rattle.pm_alloc.specs.Pieces.{new_code}
 use Rattle.pm_alloc.specs.Runs.{Goes, local_run}
@@ -31,7 +32,7 @@ world_after_new s kind c b w (suc q) =
 abbrev pub NewCodeLaw : Type 0
 NewCodeLaw =
     (s : Sizes) (to kind c : ℕ) (b : Bool) (own : Words) (x : ℕ → ℤ) (w : World) → IsPool s →
-    c ≤ 15 → (n : ℕ) × (n ≤ 39)
+    c < slot_words s → (n : ℕ) × (n ≤ 39 + 10 * (slot_words s - 16))
     × ((temp : List ℤ) × (local_run (local_step s (new_code s to kind c b)) n
     (record { at = 0; own = own; temp = temporaries x; world = w }) ≡ Goes (record {
       at = length (new_code s to kind c b);

@@ -3,6 +3,7 @@ use Rattle.std.specs.Prelude.{ℕ, ◌≤◌, ◌≡◌, Bool, List, [], ◌∷�
 use Rattle.cache_model.specs.Cache.{Words}
 use Rattle.pool_layout.specs.declared.limits.Sizes.{Sizes}
 use Rattle.pool_layout.specs.Sizes.{root_lines}
+use Rattle.pool_map.specs.declared.limits.TheConstants.{SLOTS}
 use Rattle.pm_machine.specs.Find.{least}
 use Rattle.pm_alloc.specs.Pieces.{new_code}
 use Rattle.pm_alloc.specs.Runs.{Goes, local_run}
@@ -14,8 +15,8 @@ temporaries x = x 0 ∷ x 1 ∷ x 2 ∷ x 3 ∷ x 4 ∷ x 5 ∷ x 6 ∷ x 7 ∷ 
 
 pub record IsPool (s : Sizes) : Type 0 where
   pub some : 1 ≤ s.slots
-  pub few : s.slots ≤ 65535
-  pub lines : root_lines s ≤ 64
+  pub few : s.slots ≤ SLOTS
+  pub lines : root_lines s ≤ 8192
 
 -- After one step from its start, with any registers, the code of `pm_new` has the least free slot
 -- in temporary 0, or 0 if none is free; it has loaded headers and done nothing else.

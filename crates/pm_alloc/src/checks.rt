@@ -1,11 +1,11 @@
 //! The checks before an object or an element is reached.
 
 ghost use Rattle.std.specs.Prelude.{◌≡◌, ◌++◌, ◌+◌, OnOk, ◌<◌, ◌^◌, pos};
+ghost use Rattle.pool_layout.specs.Sizes.{slot_words};
 ghost use Rattle.pm_alloc.specs.Pieces.{pointer_check, pointer_steps, index_check, index_steps};
 
 use crate::local::{Local, Locals, Reg};
 use crate::stores::field_offset;
-use cache_model::SLOT_WORDS;
 use nvm_base::BinOp;
 use pool_layout::Sizes;
 use std::alloc::AllocError;
@@ -17,21 +17,29 @@ fn past_slots(sizes: &Sizes) -> i64
     sizes.slots() as i64 + 1
 }
 
+/// The number of words of a slot.
+fn width_of(sizes: &Sizes) -> i64
+    ensures { result ≡ pos (slot_words sizes.now) }
+{
+    sizes.slot_words() as i64
+}
+
 fn push_pointer_steps(
     piece: &mut Locals,
     past: i64,
+    width: i64,
     header: i64,
     pointer: u32,
     kind: u32,
 ) -> Result<(), AllocError>
-    ensures { OnOk result (piece.new ≡ piece.old ++ pointer_steps past header pointer kind) }
+    ensures { OnOk result (piece.new ≡ piece.old ++ pointer_steps past width header pointer kind) }
 {
     piece.extend(&[
         Local::Jz(Reg::Own(pointer), 11),
         Local::Const(Reg::Temp(1), past),
         Local::Bin(BinOp::Ult, Reg::Temp(2), Reg::Own(pointer), Reg::Temp(1)),
         Local::Jz(Reg::Temp(2), 10),
-        Local::Const(Reg::Temp(0), SLOT_WORDS as i64),
+        Local::Const(Reg::Temp(0), width),
         Local::Bin(BinOp::Mul, Reg::Temp(0), Reg::Own(pointer), Reg::Temp(0)),
         Local::Load(Reg::Temp(1), Reg::Temp(0), header),
         Local::Const(Reg::Temp(2), i64::from(kind)),
@@ -43,8 +51,8 @@ fn push_pointer_steps(
 }
 
 /// Appends the checks of a pointer to a struct, at the start of a piece: trap 1 if it is 0, trap 2
-/// if it isn't a slot or the slot has no such object. After them temporary 0 holds 16 times the
-/// slot.
+/// if it isn't a slot or the slot has no such object. After them temporary 0 holds the slot
+/// times the words of one.
 #[tactic(auto, using(std::proofs::lemmas::Int::wraps))]
 pub fn push_pointer_check(
     piece: &mut Locals,
@@ -56,7 +64,7 @@ pub fn push_pointer_check(
 {
     let past = past_slots(sizes);
     let header = field_offset(sizes, 0);
-    push_pointer_steps(piece, past, header, pointer, kind)
+    push_pointer_steps(piece, past, width_of(sizes), header, pointer, kind)
 }
 
 fn push_index_steps(

@@ -13,7 +13,7 @@ use pool_layout::Sizes;
 use std::alloc::{AllocError, Global};
 
 /// A `pm_new`: the struct's number and its number of words, whether the fill is logged, the first
-/// free register, and the register of the result. Only a struct of at most 15 words has room.
+/// free register, and the register of the result. A struct has fewer words than a slot.
 #[derive(Clone, Copy)]
 pub struct NewShape {
     pub sizes: Sizes,

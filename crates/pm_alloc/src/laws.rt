@@ -11,13 +11,13 @@ pub fn search_law()
 {}
 
 /// The code of `pm_new` makes an object in the least free slot, or gives 0 if none is free, in at
-/// most 39 steps.
+/// most 39 steps and 10 for each word of a slot past the 16th.
 pub fn new_law()
     ensures { NewCodeLaw }
 {}
 
-/// The checks of a pointer trap as null or stale, or go on with 16 times its slot, in at most 11
-/// steps.
+/// The checks of a pointer trap as null or stale, or go on with its slot times the words of one, in
+/// at most 11 steps.
 pub fn pointer_law()
     ensures { PointerLaw }
 {}

@@ -4,16 +4,16 @@ ghost use Rattle.std.specs.Prelude.{◌≡◌, ◌≤◌, ◌^◌, ◌++◌, OnO
 ghost use Rattle.pm_alloc.specs.Pieces.{store_code, offset};
 
 use crate::local::{Local, Locals, Reg};
-use cache_model::SLOT_WORDS;
 use pool_layout::{Sizes, slot_word};
 use std::alloc::AllocError;
 
-/// The word of an object, counted from its header, relative to 16 times the object's slot.
+/// The word of an object, counted from its header, relative to the object's slot times the
+/// words of one.
 #[tactic(auto, using(std::proofs::lemmas::Int::wraps))]
 pub fn field_offset(sizes: &Sizes, word: u32) -> i64
     ensures { result ≡ offset sizes.now word }
 {
-    (slot_word(sizes, 1) + u64::from(word)) as i64 - SLOT_WORDS as i64
+    (slot_word(sizes, 1) + u64::from(word)) as i64 - sizes.slot_words() as i64
 }
 
 /// Appends a store of `from` at `to + offset`, right after its log if it is logged.

@@ -5,11 +5,12 @@ use Rattle.std.proofs.Common.{Some, None, ℤ, Bool, true, false, if◌then◌el
 use Rattle.std.proofs.Common.{◌+ℤ◌, w64, arith, refl, sym, ap, ◌∙◌, subst}
 use Rattle.std.specs.Int.{int_wrap}
 use Rattle.std.specs.Ordering.{int_eq}
+use Rattle.std.proofs.Math.Nat.{mul-suc}
 use Rattle.std.proofs.lemmas.Bool.{cases_eq}
 use Rattle.cache_model.specs.Cache.{Words, Cache, put}
 use Rattle.cache_model.proofs.Versions.{put_same, put_other}
 use Rattle.pool_layout.specs.declared.limits.Sizes.{Sizes}
-use Rattle.pool_layout.specs.Sizes.{heap_words, slot_word}
+use Rattle.pool_layout.specs.Sizes.{heap_words, slot_words, slot_word}
 use Rattle.pm_machine.specs.declared.image.Image.{Image}
 use Rattle.pm_machine.specs.declared.op.Op.{Op}
 use Rattle.pm_machine.specs.declared.op.Op.TheVariants.{Load, Find}
@@ -27,7 +28,7 @@ use Rattle.pm_machine.specs.Machine.{fetch, load, target, written, read_register
 use Rattle.pm_machine.specs.Logging.{Logging, Turn, Plays, Stops, asks, unlisted, missing, bare}
 use Rattle.pm_machine.specs.Logging.{with_record, noted, has_room, turn, begun, follows, logged_run}
 use Rattle.pm_machine.specs.Runs.{heap_in, AreLines, due, owed, IsFinished}
-use Rattle.pm_machine.proofs.Range.{inside_below, looks_within}
+use Rattle.pm_machine.proofs.Range.{inside_below, some_words, looks_within}
 use Rattle.pm_machine.proofs.Recording.{heap_with, heap_append, begun_rest, bare_heap}
 use Rattle.pm_machine.proofs.Dues.{due_run}
 
@@ -38,27 +39,30 @@ load_same h r s q (Some w) same = ap (λ (v : ℤ). Goes (Loads w) (written s q 
 
 -- heaps with the same headers, as far as the search in one of them goes, have the same least free
 -- slot, and their searches are equally long
-find_same : (h r : Words) (n q w : ℕ) → ((u : ℕ) → IsHeader w (tried h n w) u → h u ≡ r u) →
-    (free_of r n q w ≡ free_of h n q w) × (tried r n w ≡ tried h n w)
-find_same h r zero q w same = (refl, refl)
-find_same h r (suc n) q w same =
+find_same : (h r : Words) (d n q w : ℕ) → ((u : ℕ) → IsHeader w d (tried h d n w) u → h u ≡ r u)
+    → (free_of r d n q w ≡ free_of h d n q w) × (tried r d n w ≡ tried h d n w)
+find_same h r d zero q w same = (refl, refl)
+find_same h r d (suc n) q w same =
     let first : h w ≡ r w = same w (inl refl) in
-    let both = go (λ some. find_same h r n (q + 1) (w + 16) some) (int_eq (h w) (pos 0)) same in (
-      ap (λ (x : ℤ). if int_eq x (pos 0) then q else free_of r n (q + 1) (w + 16)) (sym first)
+    let both = go (λ some. find_same h r d n (q + 1) (w + d) some) (int_eq (h w) (pos 0)) same in (
+      ap (λ (x : ℤ). if int_eq x (pos 0) then q else free_of r d n (q + 1) (w + d)) (sym first)
           ∙ both.0,
-      ap (λ (x : ℤ). suc (if int_eq x (pos 0) then 0 else tried r n (w + 16))) (sym first) ∙ both.1,
+      ap (λ (x : ℤ). suc (if int_eq x (pos 0) then 0 else tried r d n (w + d))) (sym first)
+          ∙ both.1,
     )
   where
     Same : Type 0
     Same =
-        (free_of r n (q + 1) (w + 16) ≡ free_of h n (q + 1) (w + 16))
-        × (tried r n (w + 16) ≡ tried h n (w + 16))
+        (free_of r d n (q + 1) (w + d) ≡ free_of h d n (q + 1) (w + d))
+        × (tried r d n (w + d) ≡ tried h d n (w + d))
 
-    go : (((u : ℕ) → IsHeader (w + 16) (tried h n (w + 16)) u → h u ≡ r u) → Same) → (b : Bool) →
-        ((u : ℕ) → IsHeader w (suc (if b then 0 else tried h n (w + 16))) u → h u ≡ r u) →
-        ((if b then q else free_of r n (q + 1) (w + 16))
-        ≡ (if b then q else free_of h n (q + 1) (w + 16)))
-        × (suc (if b then 0 else tried r n (w + 16)) ≡ suc (if b then 0 else tried h n (w + 16)))
+    go : (((u : ℕ) → IsHeader (w + d) d (tried h d n (w + d)) u → h u ≡ r u) → Same)
+        → (b : Bool) →
+        ((u : ℕ) → IsHeader w d (suc (if b then 0 else tried h d n (w + d))) u → h u ≡ r u) →
+        ((if b then q else free_of r d n (q + 1) (w + d))
+        ≡ (if b then q else free_of h d n (q + 1) (w + d)))
+        × (suc (if b then 0 else tried r d n (w + d))
+        ≡ suc (if b then 0 else tried h d n (w + d)))
     go next true some = (refl, refl)
     go next false some = let rest = next (λ u is. some u (inr is)) in (rest.0, ap suc rest.1)
 
@@ -66,8 +70,8 @@ find_same h r (suc n) q w same =
 pub act_same : (image : Image) (h r : Words) (s : State) (i : Option Op) →
     ((w : ℕ) (t : State) → w < heap_words image.parts.sizes
     → execute image h s i ≡ Goes (Loads w) t → h w ≡ r w) →
-    ((w m : ℕ) (t : State) → w + 16 * m ≤ heap_words image.parts.sizes
-    → execute image h s i ≡ Goes (Scans w m) t → (u : ℕ) → IsHeader w m u → h u ≡ r u) →
+    ((w d m : ℕ) (t : State) → 1 ≤ d → w + d * m ≤ heap_words image.parts.sizes
+    → execute image h s i ≡ Goes (Scans w d m) t → (u : ℕ) → IsHeader w d m u → h u ≡ r u) →
     execute image r s i ≡ execute image h s i
 act_same image h r s (Some (Load q a o)) same alike =
     load_same h r s q (target image s a o)
@@ -76,26 +80,27 @@ act_same image h r s (Some (Load q a o)) same alike =
     (address_index (int_wrap w64 (read_register s a +ℤ o))) is) (ap (load h s q) is))
 act_same image h r s (Some (Find q)) same alike =
     let z : Sizes = image.parts.sizes in
-    let both = find_same h r image.parts.sizes.slots 1 (slot_word image.parts.sizes 1)
-    (alike (slot_word image.parts.sizes 1) (looks image.parts.sizes h)
-    (written s q (pos (least image.parts.sizes h))) (looks_within image.parts.sizes h) refl) in
-    ap (λ (m : ℕ). Goes (Scans (slot_word image.parts.sizes 1) m)
-    (written s q (pos (least image.parts.sizes r)))) both.1
-    ∙ ap (λ (p : ℕ). Goes (Scans (slot_word image.parts.sizes 1) (looks image.parts.sizes h))
+    let both = find_same h r (slot_words z) z.slots 1 (slot_word z 1)
+    (alike (slot_word z 1) (slot_words z) (looks z h) (written s q (pos (least z h)))
+    (some_words z) (looks_within z h) refl) in
+    ap (λ (m : ℕ). Goes (Scans (slot_word z 1) (slot_words z) m)
+    (written s q (pos (least z r)))) both.1
+    ∙ ap (λ (p : ℕ). Goes (Scans (slot_word z 1) (slot_words z) (looks z h))
     (written s q (pos p))) both.0
 act_same image h r s i same alike = refl
 
 -- headers below the end of the heap
-pub header_below : (w m u H : ℕ) → w + 16 * m ≤ H → IsHeader w m u → u < H
-header_below w zero u H fits is = absurd is
-header_below w (suc m) u H fits (inl e) = omega arith
-header_below w (suc m) u H fits (inr is) = header_below (w + 16) m u H (omega arith) is
+pub header_below : (w d m u H : ℕ) → 1 ≤ d → w + d * m ≤ H → IsHeader w d m u → u < H
+header_below w d zero u H some fits is = absurd is
+header_below w d (suc m) u H some fits (inl e) = omega (arith, mul-suc d m)
+header_below w d (suc m) u H some fits (inr is) =
+    header_below (w + d) d m u H some (omega (arith, mul-suc d m)) is
 
 alike_past : (H : ℕ) (e : Effect) (es : List Effect) (h r : Words) → AreAlike H (e ∷ es) h r
     → AreAlike H es (heap_past h e) (heap_past r e)
 alike_past H (Loads w) es h r alike u lt kept =
     alike u lt (⊎_elim (λ no. inl no) (λ input. inr (inr input)) kept)
-alike_past H (Scans w m) es h r alike u lt kept =
+alike_past H (Scans w apart m) es h r alike u lt kept =
     alike u lt (⊎_elim (λ no. inl no) (λ input. inr (inr input)) kept)
 alike_past H (Stores w x) es h r alike u lt kept = ⊎_elim
     (λ (e : u ≡ w). subst (λ (v : ℕ). put h w x v ≡ put r w x v) (sym e)
@@ -219,10 +224,10 @@ module _ (image : Image) (end : End) where
       let seen = loaded k g h r (Loads w) t es refl refl
       (ap (λ (o : StepOutcome). follows (after k h) (turn C g o)) (sym is) ∙ ran) alike in
       seen.1 w lt (inr (inl refl)))
-      (λ w m t fits is u header.
-      let seen = loaded k g h r (Scans w m) t es refl refl
+      (λ w d m t some fits is u header.
+      let seen = loaded k g h r (Scans w d m) t es refl refl
       (ap (λ (o : StepOutcome). follows (after k h) (turn C g o)) (sym is) ∙ ran) alike in
-      seen.1 u (header_below w m u H fits header) (inr (inl header))) in
+      seen.1 u (header_below w d m u H some fits header) (inr (inl header))) in
       let on = agree_on k g (step image s h) h r es
       (λ g t h r rest. agree k g t h r rest) ran alike in
       (ap (λ (o : StepOutcome). follows (after k r) (turn C g o)) same ∙ on.0, on.1)

@@ -37,7 +37,7 @@ use Rattle.pm_machine.proofs.Recording.{heap_with, count_with, records_append, b
 heap_at : (z : Sizes) (a n : ℕ) (c : Cache) (e : Effect) (w : ℕ) → HasRoomFor z.records n e
     → heap_in z (play c (events_of z a n (heap_in z c) e)) w ≡ heap_past (heap_in z c) e w
 heap_at z a n c (Loads u) w fits = refl
-heap_at z a n c (Scans u m) w fits = refl
+heap_at z a n c (Scans u apart m) w fits = refl
 heap_at z a n c (Stores u x) w fits = ⊎_elim
     (λ (e : w ≡ u).
     ap (λ (v : ℕ). view (apply c (Store (at (pool_of z) (Heap u)) x)) (at (pool_of z) (Heap v))) e
@@ -117,14 +117,14 @@ pub steps_with : (o : Option ℕ) (e : Effect) (es : List Effect)
     → steps_in (with_record o e ++ es) ≡ suc (steps_in es)
 steps_with None (Logs w) es = refl
 steps_with None (Loads w) es = refl
-steps_with None (Scans w m) es = refl
+steps_with None (Scans w apart m) es = refl
 steps_with None (Stores w x) es = refl
 steps_with None (Flushes l) es = refl
 steps_with None Fences es = refl
 steps_with None Quiet es = refl
 steps_with (Some v) (Logs w) es = refl
 steps_with (Some v) (Loads w) es = refl
-steps_with (Some v) (Scans w m) es = refl
+steps_with (Some v) (Scans w apart m) es = refl
 steps_with (Some v) (Stores w x) es = refl
 steps_with (Some v) (Flushes l) es = refl
 steps_with (Some v) Fences es = refl

@@ -158,7 +158,7 @@ module _ (image : Image) (a m : ℕ) (g : Logging) (s : State) (d : Device) (k :
           (subst (λ (v : Turn). PlaysAll d (turn_events z a g heap v) d)
           (turned (Goes (Loads w) u) same) refl)
           tick some h).0
-      go (Goes (Scans w l) u) same silent = absurd silent
+      go (Goes (Scans w apart l) u) same silent = absurd silent
       go (Goes (Stores w x) u) same silent = absurd silent
       go (Goes (Logs w) u) same silent = absurd silent
       go (Goes (Flushes l) u) same silent = absurd silent

@@ -22,7 +22,7 @@ look_past : (heap : Words) (e : Effect) → is_look e ≡ true → heap_past hea
 look_past heap (Loads w) h = refl
 look_past heap Fences h = refl
 look_past heap Quiet h = refl
-look_past heap (Scans w m) h = absurd (cc)
+look_past heap (Scans w apart m) h = absurd (cc)
 look_past heap (Stores w x) h = absurd (cc)
 look_past heap (Logs w) h = absurd (cc)
 look_past heap (Flushes l) h = absurd (cc)

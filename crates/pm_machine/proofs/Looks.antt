@@ -98,7 +98,7 @@ module _ (image : Image) (d : Device) (m k : ℕ) (s : State) (n0 k0 : ℕ) (s0 
       go : (o : StepOutcome) → GoesSilently t o → IsLook None t o
       go (Goes Quiet u) silent = (refl, silent)
       go (Goes (Loads w) u) silent = (refl, silent)
-      go (Goes (Scans w l) u) silent = absurd silent
+      go (Goes (Scans w apart l) u) silent = absurd silent
       go (Goes (Stores w x) u) silent = absurd silent
       go (Goes (Logs w) u) silent = absurd silent
       go (Goes (Flushes l) u) silent = absurd silent

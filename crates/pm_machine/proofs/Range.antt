@@ -3,15 +3,17 @@
 use Rattle.std.proofs.Common.{◌≡◌, ℕ, zero, suc, ◌+◌, ◌-◌, ◌*◌, ◌/◌, ◌<◌, ◌≤◌, ◌++◌, ◌==◌}
 use Rattle.std.proofs.Common.{if◌then◌else◌, Bool, true, false, List, [], ◌∷◌, drop, length}
 use Rattle.std.proofs.Common.{slice_get, Option, Some, None, ℤ, pos, ltb, w64, ◌+ℤ◌, refl, sym, ap}
-use Rattle.std.proofs.Common.{◌∙◌, subst, arith, nat_eq}
+use Rattle.std.proofs.Common.{◌∙◌, subst, arith, nat_eq, ◌^◌}
 use Rattle.std.specs.List.{list_any}
 use Rattle.std.specs.Ordering.{int_eq}
 use Rattle.std.specs.Int.{int_wrap}
 use Rattle.indexmap.specs.IndexSet.{insert_key}
 use borrow.Author.Tests.{ltb-true}
+use Rattle.std.proofs.Math.Nat.{mul-le-mul_left}
+use Rattle.std.proofs.lemmas.Nat.{mul-le}
 use Rattle.cache_model.specs.Cache.{Words}
 use Rattle.pool_layout.specs.declared.limits.Sizes.{Sizes}
-use Rattle.pool_layout.specs.Sizes.{heap_words, slot_word}
+use Rattle.pool_layout.specs.Sizes.{heap_words, slot_words, slot_word}
 use Rattle.pool_map.specs.declared.trap.TrapKind.TheVariants as trap
 use Rattle.pm_machine.specs.declared.image.Image.{Image}
 use Rattle.pm_machine.specs.declared.op.Op.{Op}
@@ -41,18 +43,33 @@ inside_below H w (Some v) is = go (ltb v H) refl is
     go true lt same = let e : v ≡ w = cc in subst (λ (i : ℕ). i < H) e (ltb-true v H lt)
     go false lt same = absurd (cc)
 
+-- a pool has few heap words
+pub heap_few : (s : Sizes) → heap_words s ≤ 2 ^ 30
+heap_few s =
+    let most : slot_words s * s.slots ≤ 512 * 2 ^ 20 =
+    mul-le (slot_words s) s.slots 512 (2 ^ 20) (omega (arith, s.slot_fits.1))
+    (omega (arith, s.slots_fit.1)) in
+    omega (arith, most, s.root_words_fit.1)
+
 -- no more headers are loaded than there are
-tried_few : (heap : Words) (n w : ℕ) → tried heap n w ≤ n
-tried_few heap zero w = omega arith
-tried_few heap (suc n) w = go (tried_few heap n (w + 16)) (int_eq (heap w) (pos 0))
+tried_few : (heap : Words) (d n w : ℕ) → tried heap d n w ≤ n
+tried_few heap d zero w = omega arith
+tried_few heap d (suc n) w = go (tried_few heap d n (w + d)) (int_eq (heap w) (pos 0))
   where
-    go : tried heap n (w + 16) ≤ n → (b : Bool) →
-        suc (if b then 0 else tried heap n (w + 16)) ≤ suc n
+    go : tried heap d n (w + d) ≤ n → (b : Bool) →
+        suc (if b then 0 else tried heap d n (w + d)) ≤ suc n
     go few true = omega arith
     go few false = omega arith
 
-pub looks_within : (s : Sizes) (heap : Words) → slot_word s 1 + 16 * looks s heap ≤ heap_words s
-looks_within s heap = omega (arith, tried_few heap s.slots (slot_word s 1))
+pub some_words : (s : Sizes) → 1 ≤ slot_words s
+some_words s = let few : 2 ≤ s.slot_lines = s.slot_fits.0 in omega arith
+
+pub looks_within : (s : Sizes) (heap : Words)
+    → slot_word s 1 + slot_words s * looks s heap ≤ heap_words s
+looks_within s heap =
+    let few : slot_words s * looks s heap ≤ slot_words s * s.slots =
+    mul-le-mul_left (slot_words s) (tried_few heap (slot_words s) s.slots (slot_word s 1)) in
+    omega (arith, few)
 
 lines_push : (H : ℕ) (ls : List ℕ) (l : ℕ) → AreLines H ls → 8 * l < H → AreLines H (ls ++ l ∷ [])
 lines_push H [] l lines lt = (lt, tt)
@@ -153,7 +170,7 @@ keeps_progress image heap s p e t lines did is =
 pub bare_range : (H : ℕ) (e : Effect) → IsInRange H e → IsInRange H (bare e)
 bare_range H (Logs w) fits = tt
 bare_range H (Loads w) fits = fits
-bare_range H (Scans w m) fits = fits
+bare_range H (Scans w apart m) fits = fits
 bare_range H (Stores w x) fits = fits
 bare_range H (Flushes l) fits = fits
 bare_range H Fences fits = tt
@@ -163,7 +180,7 @@ bare_range H Quiet fits = tt
 pub bare_room : (C n : ℕ) (e : Effect) → HasRoomFor C n (bare e)
 bare_room C n (Logs w) = tt
 bare_room C n (Loads w) = tt
-bare_room C n (Scans w m) = tt
+bare_room C n (Scans w apart m) = tt
 bare_room C n (Stores w x) = tt
 bare_room C n (Flushes l) = tt
 bare_room C n Fences = tt

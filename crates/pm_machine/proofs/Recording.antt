@@ -29,14 +29,14 @@ pub heap_with : (heap : Words) (o : Option ℕ) (e : Effect)
     → heap_end heap (with_record o e) ≡ heap_past heap e
 heap_with heap None (Logs w) = refl
 heap_with heap None (Loads w) = refl
-heap_with heap None (Scans w m) = refl
+heap_with heap None (Scans w apart m) = refl
 heap_with heap None (Stores w x) = refl
 heap_with heap None (Flushes l) = refl
 heap_with heap None Fences = refl
 heap_with heap None Quiet = refl
 heap_with heap (Some v) (Logs w) = refl
 heap_with heap (Some v) (Loads w) = refl
-heap_with heap (Some v) (Scans w m) = refl
+heap_with heap (Some v) (Scans w apart m) = refl
 heap_with heap (Some v) (Stores w x) = refl
 heap_with heap (Some v) (Flushes l) = refl
 heap_with heap (Some v) Fences = refl
@@ -45,7 +45,7 @@ heap_with heap (Some v) Quiet = refl
 pub bare_heap : (heap : Words) (e : Effect) → heap_past heap (bare e) ≡ heap_past heap e
 bare_heap heap (Logs w) = refl
 bare_heap heap (Loads w) = refl
-bare_heap heap (Scans w m) = refl
+bare_heap heap (Scans w apart m) = refl
 bare_heap heap (Stores w x) = refl
 bare_heap heap (Flushes l) = refl
 bare_heap heap Fences = refl
@@ -56,14 +56,14 @@ pub count_with : (g : Logging) (o : Option ℕ) (e : Effect)
     → records_end g.count (with_record o e) ≡ (noted g o).count
 count_with g None (Logs w) = refl
 count_with g None (Loads w) = refl
-count_with g None (Scans w m) = refl
+count_with g None (Scans w apart m) = refl
 count_with g None (Stores w x) = refl
 count_with g None (Flushes l) = refl
 count_with g None Fences = refl
 count_with g None Quiet = refl
 count_with g (Some v) (Logs w) = refl
 count_with g (Some v) (Loads w) = refl
-count_with g (Some v) (Scans w m) = refl
+count_with g (Some v) (Scans w apart m) = refl
 count_with g (Some v) (Stores w x) = refl
 count_with g (Some v) (Flushes l) = refl
 count_with g (Some v) Fences = refl

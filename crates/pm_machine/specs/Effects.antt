@@ -14,7 +14,7 @@ use Rattle.pm_machine.specs.declared.effect.Effect.TheVariants.{Fences, Quiet}
 -- the heap after a step
 abbrev pub heap_past : Words → Effect → Words
 heap_past heap (Loads w) = heap
-heap_past heap (Scans w m) = heap
+heap_past heap (Scans w apart m) = heap
 heap_past heap (Stores w x) = put heap w x
 heap_past heap (Logs w) = heap
 heap_past heap (Flushes l) = heap
@@ -29,7 +29,7 @@ heap_end heap (e ∷ es) = heap_end (heap_past heap e) es
 -- the number of records after a step that began with n
 abbrev pub records_past : ℕ → Effect → ℕ
 records_past n (Loads w) = n
-records_past n (Scans w m) = n
+records_past n (Scans w apart m) = n
 records_past n (Stores w x) = n
 records_past n (Logs w) = suc n
 records_past n (Flushes l) = n
@@ -46,7 +46,7 @@ abbrev pub steps_in : List Effect → ℕ
 steps_in [] = 0
 steps_in (Logs w ∷ es) = steps_in es
 steps_in (Loads w ∷ es) = suc (steps_in es)
-steps_in (Scans w m ∷ es) = suc (steps_in es)
+steps_in (Scans w apart m ∷ es) = suc (steps_in es)
 steps_in (Stores w x ∷ es) = suc (steps_in es)
 steps_in (Flushes l ∷ es) = suc (steps_in es)
 steps_in (Fences ∷ es) = suc (steps_in es)
@@ -55,7 +55,7 @@ steps_in (Quiet ∷ es) = suc (steps_in es)
 -- the events of a step, with attempt a, n records so far and the heap so far
 abbrev pub events_of : Sizes → (a n : ℕ) → Words → Effect → List CacheEvent
 events_of s a n heap (Loads w) = []
-events_of s a n heap (Scans w m) = []
+events_of s a n heap (Scans w apart m) = []
 events_of s a n heap (Stores w x) = Store (at (pool_of s) (Heap w)) x ∷ []
 events_of s a n heap (Logs w) = record_events s n w (heap w) (a + 1)
 events_of s a n heap (Flushes l) = Flush (6 + s.records + l) ∷ []

@@ -5,31 +5,31 @@ use Rattle.std.specs.Prelude.{ℕ, zero, suc, ◌+◌, ◌<◌, ◌≤◌, if◌
 use Rattle.std.specs.Ordering.{int_eq}
 use Rattle.cache_model.specs.Cache.{Words}
 use Rattle.pool_layout.specs.declared.limits.Sizes.{Sizes}
-use Rattle.pool_layout.specs.Sizes.{slot_word}
-use Rattle.cache_model.specs.declared.slot.TheConstants.{SLOT_WORDS}
+use Rattle.pool_layout.specs.Sizes.{slot_words, slot_word}
 
--- the least free of n slots from number q on, whose headers begin at heap word w; 0 if none is free
-abbrev pub free_of : Words → (n q w : ℕ) → ℕ
-free_of heap zero q w = 0
-free_of heap (suc n) q w = if int_eq (heap w) (pos 0) then q
-    else free_of heap n (q + 1) (w + SLOT_WORDS)
+-- the least free of n slots from number q on, whose headers begin at heap word w and are d words
+-- apart; 0 if none is free
+abbrev pub free_of : Words → (d n q w : ℕ) → ℕ
+free_of heap d zero q w = 0
+free_of heap d (suc n) q w = if int_eq (heap w) (pos 0) then q
+    else free_of heap d n (q + 1) (w + d)
 
 -- the number of headers that this search loads
-abbrev pub tried : Words → (n w : ℕ) → ℕ
-tried heap zero w = 0
-tried heap (suc n) w = suc (if int_eq (heap w) (pos 0) then 0 else tried heap n (w + SLOT_WORDS))
+abbrev pub tried : Words → (d n w : ℕ) → ℕ
+tried heap d zero w = 0
+tried heap d (suc n) w = suc (if int_eq (heap w) (pos 0) then 0 else tried heap d n (w + d))
 
 -- the least free slot of a pool, or 0, and the number of headers that the search loads
 abbrev pub least : Sizes → Words → ℕ
-least s heap = free_of heap s.slots 1 (slot_word s 1)
+least s heap = free_of heap (slot_words s) s.slots 1 (slot_word s 1)
 
 abbrev pub looks : Sizes → Words → ℕ
-looks s heap = tried heap s.slots (slot_word s 1)
+looks s heap = tried heap (slot_words s) s.slots (slot_word s 1)
 
--- u is one of n headers from word w on
-abbrev pub IsHeader : (w n u : ℕ) → Type 0
-IsHeader w zero u = ⊥
-IsHeader w (suc n) u = (u ≡ w) ⊎ IsHeader (w + SLOT_WORDS) n u
+-- u is one of n headers that are d words apart, from word w on
+abbrev pub IsHeader : (w d n u : ℕ) → Type 0
+IsHeader w d zero u = ⊥
+IsHeader w d (suc n) u = (u ≡ w) ⊎ IsHeader (w + d) d n u
 
 -- q is the least free slot, or 0 if none is free
 abbrev pub IsLeast : Sizes → Words → ℕ → Type 0

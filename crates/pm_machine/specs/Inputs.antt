@@ -11,7 +11,7 @@ use Rattle.pm_machine.specs.Find.{IsHeader}
 abbrev pub IsInput : List Effect → ℕ → Type 0
 IsInput [] u = ⊥
 IsInput (Loads w ∷ es) u = (u ≡ w) ⊎ IsInput es u
-IsInput (Scans w m ∷ es) u = IsHeader w m u ⊎ IsInput es u
+IsInput (Scans w apart m ∷ es) u = IsHeader w apart m u ⊎ IsInput es u
 IsInput (Stores w x ∷ es) u = (u ≢ w) × IsInput es u
 IsInput (Logs w ∷ es) u = IsInput es u
 IsInput (Flushes l ∷ es) u = IsInput es u
@@ -22,7 +22,7 @@ IsInput (Quiet ∷ es) u = IsInput es u
 abbrev pub IsOverwritten : List Effect → ℕ → Type 0
 IsOverwritten [] u = ⊥
 IsOverwritten (Loads w ∷ es) u = IsOverwritten es u
-IsOverwritten (Scans w m ∷ es) u = IsOverwritten es u
+IsOverwritten (Scans w apart m ∷ es) u = IsOverwritten es u
 IsOverwritten (Stores w x ∷ es) u = (u ≡ w) ⊎ IsOverwritten es u
 IsOverwritten (Logs w ∷ es) u = IsOverwritten es u
 IsOverwritten (Flushes l ∷ es) u = IsOverwritten es u

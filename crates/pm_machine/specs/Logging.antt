@@ -36,7 +36,7 @@ abbrev pub asks : Policy → Effect → Option ℕ
 asks p (Logs w) = Some w
 asks p (Stores w x) = rolled p w
 asks p (Loads w) = None
-asks p (Scans w m) = None
+asks p (Scans w apart m) = None
 asks p (Flushes l) = None
 asks p Fences = None
 asks p Quiet = None
@@ -54,7 +54,7 @@ missing g e = unlisted g.words (asks g.policy e)
 abbrev pub bare : Effect → Effect
 bare (Logs w) = Quiet
 bare (Loads w) = Loads w
-bare (Scans w m) = Scans w m
+bare (Scans w apart m) = Scans w apart m
 bare (Stores w x) = Stores w x
 bare (Flushes l) = Flushes l
 bare Fences = Fences

@@ -15,7 +15,7 @@ use Rattle.pm_machine.specs.Machine.{State, StepOutcome, Goes, Ends, step}
 
 abbrev pub is_look : Effect → Bool
 is_look (Loads w) = true
-is_look (Scans w m) = false
+is_look (Scans w apart m) = false
 is_look (Stores w x) = false
 is_look (Logs w) = false
 is_look (Flushes l) = false

@@ -7,7 +7,7 @@ use Rattle.std.specs.Int.{w64, int_wrap}
 use Rattle.std.specs.Ordering.{int_eq}
 use Rattle.indexmap.specs.IndexSet.{insert_key}
 use Rattle.cache_model.specs.Cache.{Words}
-use Rattle.pool_layout.specs.Sizes.{heap_words, slot_word}
+use Rattle.pool_layout.specs.Sizes.{heap_words, slot_words, slot_word}
 use Rattle.pool_map.specs.declared.trap.TrapKind.{TrapKind}
 use Rattle.pool_map.specs.declared.trap.TrapKind.TheVariants.{Steps, Depth}
 use Rattle.pool_map.specs.Trap.{trap_of}
@@ -100,7 +100,8 @@ load heap s r (Some w) = Goes (Loads w) (written s r (heap w))
 -- writes the least free slot to a register
 abbrev pub find : Image → Words → State → ℕ → StepOutcome
 find image heap s r =
-    Goes (Scans (slot_word image.parts.sizes 1) (looks image.parts.sizes heap))
+    Goes (Scans (slot_word image.parts.sizes 1) (slot_words image.parts.sizes)
+    (looks image.parts.sizes heap))
     (written s r (pos (least image.parts.sizes heap)))
 
 -- goes on to the next place, with the word's line dirty

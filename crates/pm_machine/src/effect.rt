@@ -7,8 +7,8 @@ use pool_map::TrapKind;
 #[derive(Clone, Copy, Drop)]
 pub enum Effect {
     Loads(u64),
-    /// Loads slot headers, 16 words apart: from this heap word on, this many.
-    Scans(u64, u64),
+    /// Loads slot headers: from this heap word on, so far apart, this many.
+    Scans(u64, u64, u64),
     Stores(u64, i64),
     Logs(u64),
     Flushes(u64),

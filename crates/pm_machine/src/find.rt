@@ -2,6 +2,7 @@
 
 ghost use Rattle.std.specs.Prelude.{◌≡◌, ◌≤◌, true, IsSome, IfSome};
 ghost use Rattle.pool_layout.specs.Sizes.{pool_lines};
+ghost use Rattle.pool_map.specs.declared.limits.TheConstants.{SLOTS};
 ghost use Rattle.pm_machine.specs.inside.Found.{least_on, looks_on};
 
 use pmem::PmemWork;
@@ -21,12 +22,16 @@ pub fn search<P: PmemWork>(dev: &mut P, sizes: &Sizes) -> Option<Found>
     requires on { (P.device dev.old).on ≡ true }
     ensures some { IsSome result }
     ensures slot { IfSome result (λ f. f.slot ≡ least_on sizes.now (P.device dev.old)) }
-    ensures small { IfSome result (λ f. f.slot ≤ 65535) }
+    ensures small { IfSome result (λ f. f.slot ≤ SLOTS) }
     ensures looks { IfSome result (λ f. f.looks ≡ looks_on sizes.now (P.device dev.old)) }
     ensures same { P.device dev.new ≡ P.device dev.old }
 {
     let slots = sizes.slots();
-    let used = dev.first_zero(heap_start(sizes) + slot_word(sizes, 1), slots)?;
+    let used = dev.first_zero(
+        heap_start(sizes) + slot_word(sizes, 1),
+        sizes.slot_words(),
+        slots,
+    )?;
     if used < slots {
         Some(Found {
             slot: used + 1,

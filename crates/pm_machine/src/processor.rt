@@ -306,7 +306,11 @@ impl Processor {
             None => Err(Refusal::Off),
             Some(found) => {
                 self.write(r, found.slot as i64);
-                Ok(Progress::Did(Effect::Scans(slot_word(image.sizes(), 1), found.looks)))
+                Ok(Progress::Did(Effect::Scans(
+                    slot_word(image.sizes(), 1),
+                    image.sizes().slot_words(),
+                    found.looks,
+                )))
             }
         }
     }

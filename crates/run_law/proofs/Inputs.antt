@@ -10,8 +10,9 @@ use Rattle.run_law.proofs.Headers.{input_headers, headers_input, over_headers, h
 pub input_seen : (es : List Effect) (u : ℕ) → own.IsInput es u → IsInput (seen_all es) u
 input_seen [] u h = h
 input_seen (effect.Loads w ∷ es) u h = ⊎_elim (λ e. inl e) (λ r. inr (input_seen es u r)) h
-input_seen (effect.Scans w many ∷ es) u h =
-    input_headers w many u (seen_all es) (⊎_elim (λ is. inl is) (λ r. inr (input_seen es u r)) h)
+input_seen (effect.Scans w apart many ∷ es) u h =
+    input_headers w apart many u (seen_all es)
+    (⊎_elim (λ is. inl is) (λ r. inr (input_seen es u r)) h)
 input_seen (effect.Stores w x ∷ es) u h = (h.0, input_seen es u h.1)
 input_seen (effect.Logs w ∷ es) u h = input_seen es u h
 input_seen (effect.Flushes l ∷ es) u h = input_seen es u h
@@ -21,8 +22,9 @@ input_seen (effect.Quiet ∷ es) u h = input_seen es u h
 pub seen_input : (es : List Effect) (u : ℕ) → IsInput (seen_all es) u → own.IsInput es u
 seen_input [] u h = h
 seen_input (effect.Loads w ∷ es) u h = ⊎_elim (λ e. inl e) (λ r. inr (seen_input es u r)) h
-seen_input (effect.Scans w many ∷ es) u h =
-    ⊎_elim (λ is. inl is) (λ r. inr (seen_input es u r)) (headers_input w many u (seen_all es) h)
+seen_input (effect.Scans w apart many ∷ es) u h =
+    ⊎_elim (λ is. inl is) (λ r. inr (seen_input es u r))
+    (headers_input w apart many u (seen_all es) h)
 seen_input (effect.Stores w x ∷ es) u h = (h.0, seen_input es u h.1)
 seen_input (effect.Logs w ∷ es) u h = seen_input es u h
 seen_input (effect.Flushes l ∷ es) u h = seen_input es u h
@@ -32,7 +34,8 @@ seen_input (effect.Quiet ∷ es) u h = seen_input es u h
 pub over_seen : (es : List Effect) (u : ℕ) → own.IsOverwritten es u → IsOverwritten (seen_all es) u
 over_seen [] u h = h
 over_seen (effect.Loads w ∷ es) u h = over_seen es u h
-over_seen (effect.Scans w many ∷ es) u h = over_headers w many u (seen_all es) (over_seen es u h)
+over_seen (effect.Scans w apart many ∷ es) u h =
+    over_headers w apart many u (seen_all es) (over_seen es u h)
 over_seen (effect.Stores w x ∷ es) u h = ⊎_elim (λ e. inl e) (λ r. inr (over_seen es u r)) h
 over_seen (effect.Logs w ∷ es) u h = over_seen es u h
 over_seen (effect.Flushes l ∷ es) u h = over_seen es u h
@@ -42,7 +45,8 @@ over_seen (effect.Quiet ∷ es) u h = over_seen es u h
 pub seen_over : (es : List Effect) (u : ℕ) → IsOverwritten (seen_all es) u → own.IsOverwritten es u
 seen_over [] u h = h
 seen_over (effect.Loads w ∷ es) u h = seen_over es u h
-seen_over (effect.Scans w many ∷ es) u h = seen_over es u (headers_over w many u (seen_all es) h)
+seen_over (effect.Scans w apart many ∷ es) u h =
+    seen_over es u (headers_over w apart many u (seen_all es) h)
 seen_over (effect.Stores w x ∷ es) u h = ⊎_elim (λ e. inl e) (λ r. inr (seen_over es u r)) h
 seen_over (effect.Logs w ∷ es) u h = seen_over es u h
 seen_over (effect.Flushes l ∷ es) u h = seen_over es u h

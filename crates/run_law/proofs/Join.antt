@@ -34,7 +34,7 @@ use Rattle.run_law.proofs.Headers.{events_headers, trace_headers}
 abbrev stored_lines : List ℕ → List Effect → List ℕ
 stored_lines ls [] = ls
 stored_lines ls (Loads w ∷ es) = stored_lines ls es
-stored_lines ls (Scans w many ∷ es) = stored_lines ls es
+stored_lines ls (Scans w apart many ∷ es) = stored_lines ls es
 stored_lines ls (Stores w x ∷ es) = stored_lines (insert_key nat_eq ls (w / 8)) es
 stored_lines ls (Logs w ∷ es) = stored_lines ls es
 stored_lines ls (Flushes l ∷ es) = stored_lines ls es
@@ -60,8 +60,8 @@ module _ (z : Sizes) (a : ℕ) where
       events_all z a n heap es ≡ effect_events z a n heap (seen_all es)
   still_events [] n heap still = refl
   still_events (Loads w ∷ es) n heap still = still_events es n heap still
-  still_events (Scans w many ∷ es) n heap still =
-      still_events es n heap still ∙ sym (events_headers z a n heap w many (seen_all es))
+  still_events (Scans w apart many ∷ es) n heap still =
+      still_events es n heap still ∙ sym (events_headers z a n heap w apart many (seen_all es))
   still_events (Stores w x ∷ es) n heap still =
       ap (λ (r : List CacheEvent). Store (at C (Heap w)) x ∷ r)
       (still_events es n (put heap w x) still)
@@ -78,9 +78,9 @@ module _ (z : Sizes) (a : ℕ) where
       × (effect_events z a n heap (seen_all es) ≡ []) × ((ks : List ℕ) → stored_lines ks es ≡ ks)
   flushed_events [] ls n heap flushed = absurd flushed
   flushed_events (Loads w ∷ es) ls n heap flushed = flushed_events es ls n heap flushed
-  flushed_events (Scans w many ∷ es) ls n heap flushed =
+  flushed_events (Scans w apart many ∷ es) ls n heap flushed =
       let h = flushed_events es ls n heap flushed in
-      (h.0, events_headers z a n heap w many (seen_all es) ∙ h.1, h.2)
+      (h.0, events_headers z a n heap w apart many (seen_all es) ∙ h.1, h.2)
   flushed_events (Stores w x ∷ es) ls n heap flushed = absurd flushed
   flushed_events (Logs w ∷ es) ls n heap flushed = absurd flushed
   flushed_events (Quiet ∷ es) ls n heap flushed = flushed_events es ls n heap flushed
@@ -113,11 +113,11 @@ module _ (z : Sizes) (a : ℕ) where
       ++ flush_all (heap_lines z (stored_lines ls es)) (Fence ∷ [])
   tidy_events [] ls n heap tidy = absurd tidy
   tidy_events (Loads w ∷ es) ls n heap tidy = tidy_events es ls n heap tidy
-  tidy_events (Scans w many ∷ es) ls n heap tidy =
+  tidy_events (Scans w apart many ∷ es) ls n heap tidy =
       tidy_events es ls n heap tidy
       ∙ ap (λ (r : List CacheEvent). r
       ++ flush_all (heap_lines z (stored_lines ls es)) (Fence ∷ []))
-      (sym (events_headers z a n heap w many (seen_all es)))
+      (sym (events_headers z a n heap w apart many (seen_all es)))
   tidy_events (Stores w x ∷ es) ls n heap tidy =
       ap (λ (r : List CacheEvent). Store (at C (Heap w)) x ∷ r)
       (tidy_events es (insert_key nat_eq ls (w / 8)) n (put heap w x) tidy)
@@ -161,10 +161,10 @@ lines_from : (z : Sizes) (es : List Effect) (last : Option ℕ) (ls seen : List 
     ++ lines_of z seen (trace_of last (seen_all es))
 lines_from z [] last ls seen same = sym (append-nil (heap_lines z ls))
 lines_from z (Loads w ∷ es) last ls seen same = lines_from z es last ls seen same
-lines_from z (Scans w many ∷ es) last ls seen same =
+lines_from z (Scans w apart many ∷ es) last ls seen same =
     lines_from z es last ls seen same
     ∙ ap (λ (trace : List Entry). heap_lines z ls ++ lines_of z seen trace)
-    (sym (trace_headers last w many (seen_all es)))
+    (sym (trace_headers last w apart many (seen_all es)))
 lines_from z (Logs w ∷ es) last ls seen same = lines_from z es (Some w) ls seen same
 lines_from z (Flushes l ∷ es) last ls seen same = lines_from z es last ls seen same
 lines_from z (Fences ∷ es) last ls seen same = lines_from z es last ls seen same
@@ -215,8 +215,9 @@ heap_same : (es : List Effect) (last : Option ℕ) (heap : ℕ → ℤ)
     → heap_end heap es ≡ heap_after heap (trace_of last (seen_all es))
 heap_same [] last heap = refl
 heap_same (Loads w ∷ es) last heap = heap_same es last heap
-heap_same (Scans w many ∷ es) last heap =
-    heap_same es last heap ∙ ap (heap_after heap) (sym (trace_headers last w many (seen_all es)))
+heap_same (Scans w apart many ∷ es) last heap =
+    heap_same es last heap
+    ∙ ap (heap_after heap) (sym (trace_headers last w apart many (seen_all es)))
 heap_same (Stores w x ∷ es) last heap =
     heap_same es None (put heap w x) ∙ sym (heap_entry heap last w x (trace_of None (seen_all es)))
 heap_same (Logs w ∷ es) last heap = heap_same es (Some w) heap

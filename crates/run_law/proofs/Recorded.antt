@@ -1,5 +1,5 @@
 -- A run with its records is sound if the run without them is.
-use Rattle.std.proofs.Common.{◌≡◌, ◌≢◌, ◌⊎◌, ◌||◌, inl, inr, ⊎_elim, ℕ, zero, suc, ◌+◌}
+use Rattle.std.proofs.Common.{◌≡◌, ◌≢◌, ◌⊎◌, ◌||◌, inl, inr, ⊎_elim, ℕ, suc, ◌+◌}
 use Rattle.std.proofs.Common.{if◌then◌else◌, nat_lt}
 use Rattle.std.proofs.Common.{nat_eq, Bool, true, false, List, [], ◌∷◌, ◌++◌, Option, Some, None}
 use Rattle.std.proofs.Common.{ℤ, refl, sym, ap, ◌∙◌, subst, eqb-true, eq-eqb}
@@ -20,10 +20,10 @@ use Rattle.pm_machine.specs.Machine.{Run, Finished}
 use Rattle.pm_machine.specs.Logging.{Logging, with_record, has_room, noted, begun, with_records}
 use Rattle.crash_law.specs.Effects.{IsPaired, IsLoggedFirst}
 use Rattle.crash_law.specs.Effects as past
-use Rattle.run_law.specs.Seen.{headers_before, seen_all, E, W}
+use Rattle.run_law.specs.Seen.{seen_all, E, W}
 use Rattle.run_law.specs.Sound.{IsStill, IsTidyEnd, IsSoundRun}
 use Rattle.run_law.specs.Law.{RecordsSoundLaw}
-use Rattle.run_law.proofs.Headers.{pair_headers, first_headers, headers_first}
+use Rattle.run_law.proofs.Headers.{pair_headers, headers_pair, first_headers, headers_first}
 use Rattle.run_law.proofs.Shapes.{Shape, Fits, MayStore, next, tail_of, may_store, may_log}
 use Rattle.run_law.proofs.Shapes.{log_before, quiet_before, log_next, shape, fits_of, of_fits}
 
@@ -246,13 +246,6 @@ module _ (p : Policy) (ws : List ℕ) (sh : Shape) (end0 : End) (fs : List Effec
         (λ first. inr (inr first)) (s.covers u more over)) (asked u is);
   }
 
--- the lists of headers that a search loads stand in both runs
-headers_pair : (last : Option ℕ) (w m : ℕ) (es : List past.Effect) →
-    IsPaired last (headers_before w m es) → IsPaired last es
-headers_pair last w zero es p = p
-headers_pair None w (suc m) es p = headers_pair None (w + 16) m es p
-headers_pair (Some v) w (suc m) es p = headers_pair (Some v) (w + 16) m es p
-
 pair_load : (last : Option ℕ) (w : ℕ) (es : List Effect) → IsPaired last (seen_all es) →
     IsPaired last (seen_all (Loads w ∷ es))
 pair_load None w es p = p
@@ -295,14 +288,15 @@ module _ (p : Policy) (ws : List ℕ) (sh : Shape) (end0 : End) (fs : List Effec
     asked = λ u asked. asked_by p (Loads w) fs u (λ f. f) asked;
   }
 
-  plain_scans : (w m : ℕ) → IsPlain p ws sh end0 fs r (Scans w m)
-  plain_scans w m = record {
-    pair = λ last es paired. pair_headers last w m (seen_all es) paired;
+  plain_scans : (w d m : ℕ) → IsPlain p ws sh end0 fs r (Scans w d m)
+  plain_scans w d m = record {
+    pair = λ last es paired. pair_headers last w d m (seen_all es) paired;
     inputs = λ es u known input. ⊎_elim (λ e. inl e) (λ more. inr (known u more)) input;
     over = λ es u over. over;
     over_back = λ u over. over;
-    first = λ es u first. first_headers w m u (seen_all es) first;
-    asked = λ u asked. asked_by p (Scans w m) fs u (λ f. headers_first w m u (seen_all fs) f) asked;
+    first = λ es u first. first_headers w d m u (seen_all es) first;
+    asked = λ u asked. asked_by p (Scans w d m) fs u
+        (λ f. headers_first w d m u (seen_all fs) f) asked;
   }
 
   plain_flushes : (l : ℕ) → IsPlain p ws sh end0 fs r (Flushes l)
@@ -496,9 +490,10 @@ module _ (C : ℕ) (end0 : End) where
   recorded (Loads w ∷ fs) =
       plain (Loads w) fs (recorded fs) (λ p ws sh r. plain_loads p ws sh end0 fs r w)
       (λ q paired. load_pair q w fs paired)
-  recorded (Scans w m ∷ fs) =
-      plain (Scans w m) fs (recorded fs) (λ p ws sh r. plain_scans p ws sh end0 fs r w m)
-      (λ q paired. headers_pair q w m (seen_all fs) paired)
+  recorded (Scans w apart m ∷ fs) =
+      plain (Scans w apart m) fs (recorded fs)
+      (λ p ws sh r. plain_scans p ws sh end0 fs r w apart m)
+      (λ q paired. headers_pair q w apart m (seen_all fs) paired)
   recorded (Flushes l ∷ fs) =
       plain (Flushes l) fs (recorded fs) (λ p ws sh r. plain_flushes p ws sh end0 fs r l)
       (λ q paired. still_pair q (seen_all fs) paired)

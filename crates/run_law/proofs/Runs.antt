@@ -1,9 +1,8 @@
 -- The machine's runs have the properties that the crash law asks for.
-use Rattle.std.proofs.Common.{pos, ◌≡◌, ◌⊎◌, inl, inr, ℕ, suc, ◌<◌, List, [], ◌∷◌, ◌++◌, None}
+use Rattle.std.proofs.Common.{pos, ◌≡◌, ◌⊎◌, inl, inr, ℕ, suc, List, [], ◌∷◌, ◌++◌, None}
 use Rattle.std.proofs.Common.{refl, sym, ap, ◌∙◌, append_assoc, ℤ, arith}
 use Rattle.cache_model.specs.Event.{CacheEvent, Flush, Fence}
 use Rattle.cache_model.specs.Cache.{Words}
-use Rattle.pool_layout.specs.declared.limits.Sizes.{Sizes}
 use Rattle.pool_layout.specs.Sizes.{heap_words}
 use Rattle.pool_map.specs.Trap.{trap_number}
 use Rattle.crash_law.specs.Due.{Entry, run_events, flush_all, lines_of, Undone, undo_events}

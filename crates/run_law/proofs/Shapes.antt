@@ -62,7 +62,7 @@ fence_tail (k ∷ ks) fs h = absurd h
 pub tail_of : (sh : Shape) (e : Effect) (fs : List Effect) → Fits sh (e ∷ fs) → Tail sh e fs
 tail_of (Open ds) (Loads w) fs h =
     record { there = h; back = λ es g. g; open_before = λ may. (tt, λ es still. still) }
-tail_of (Open ds) (Scans w m) fs h =
+tail_of (Open ds) (Scans w apart m) fs h =
     record { there = h; back = λ es g. g; open_before = λ may. (tt, λ es still. still) }
 tail_of (Open ds) (Stores w x) fs h =
     record { there = h; back = λ es g. g; open_before = λ may. (tt, λ es still. still) }
@@ -78,7 +78,7 @@ tail_of (Open []) Fences fs h =
 tail_of (Open (k ∷ ks)) Fences fs h = absurd h
 tail_of (Closing ds) (Loads w) fs h =
     record { there = h; back = λ es g. g; open_before = λ may. absurd may }
-tail_of (Closing ds) (Scans w m) fs h =
+tail_of (Closing ds) (Scans w apart m) fs h =
     record { there = h; back = λ es g. g; open_before = λ may. absurd may }
 tail_of (Closing ds) (Stores w x) fs h = absurd h
 tail_of (Closing ds) (Logs w) fs h = absurd h
@@ -89,7 +89,7 @@ tail_of (Closing ds) Fences fs h = fence_tail ds fs h
 tail_of Over e fs h = absurd (cc (h))
 tail_of Still (Loads w) fs h =
     record { there = h; back = λ es g. g; open_before = λ may. (tt, λ es still. still) }
-tail_of Still (Scans w m) fs h =
+tail_of Still (Scans w apart m) fs h =
     record { there = h; back = λ es g. g; open_before = λ may. (tt, λ es still. still) }
 tail_of Still (Stores w x) fs h =
     record { there = h; back = λ es g. g; open_before = λ may. (tt, λ es still. still) }

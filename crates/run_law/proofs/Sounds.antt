@@ -35,9 +35,9 @@ module _ (C H : ℕ) where
   fit_bare : (n : ℕ) (e : Effect) (es : List Effect) → IsInRange H e → Fit n es
       → Fit n (bare e ∷ es)
   fit_bare n (Loads w) es fits rest = rest
-  fit_bare n (Scans w many) es fits rest =
-      let same = logs_headers w many (seen_all es) in
-      ((λ u over. rest.0 u (headers_over w many u (seen_all es) over)), omega (arith, rest.1))
+  fit_bare n (Scans w apart many) es fits rest =
+      let same = logs_headers w apart many (seen_all es) in
+      ((λ u over. rest.0 u (headers_over w apart many u (seen_all es) over)), omega (arith, rest.1))
   fit_bare n (Stores w x) es fits rest = (
     (λ u over. ⊎_elim (λ e. subst (λ (v : ℕ). v < H) (sym e) fits) (λ later. rest.0 u later) over),
     rest.1,

@@ -12,17 +12,16 @@ use Rattle.pm_machine.specs.declared.records.Policy.TheVariants.{EndPool, RollBa
 use Rattle.pm_machine.specs.Inputs.{IsInput, IsOverwritten}
 use Rattle.crash_law.specs.Due as due
 use Rattle.crash_law.specs.Effects as past
-use Rattle.cache_model.specs.declared.slot.TheConstants.{SLOT_WORDS}
 
 -- the loads of n headers from word w on, followed by these effects
-abbrev pub headers_before : (w n : ℕ) → List past.Effect → List past.Effect
-headers_before w zero es = es
-headers_before w (suc n) es = past.Loads w ∷ headers_before (w + SLOT_WORDS) n es
+abbrev pub headers_before : (w d n : ℕ) → List past.Effect → List past.Effect
+headers_before w d zero es = es
+headers_before w d (suc n) es = past.Loads w ∷ headers_before (w + d) d n es
 
 -- an effect, followed by these
 abbrev pub seen_before : Effect → List past.Effect → List past.Effect
 seen_before (Loads w) es = past.Loads w ∷ es
-seen_before (Scans w n) es = headers_before w n es
+seen_before (Scans w apart n) es = headers_before w apart n es
 seen_before (Stores w x) es = past.Stores w x ∷ es
 seen_before (Logs w) es = past.Logs w ∷ es
 seen_before (Flushes l) es = past.Still ∷ es

@@ -24,7 +24,7 @@ IsPairedRun es = IsPaired None (seen_all es)
 abbrev pub IsStill : List Effect → Type 0
 IsStill [] = Unit {0}
 IsStill (Loads w ∷ es) = IsStill es
-IsStill (Scans w many ∷ es) = IsStill es
+IsStill (Scans w apart many ∷ es) = IsStill es
 IsStill (Stores w x ∷ es) = IsStill es
 IsStill (Logs w ∷ es) = IsStill es
 IsStill (Flushes l ∷ es) = ⊥
@@ -35,7 +35,7 @@ IsStill (Quiet ∷ es) = IsStill es
 abbrev pub IsFlushed : List ℕ → List Effect → Type 0
 IsFlushed ls [] = ⊥
 IsFlushed ls (Loads w ∷ es) = IsFlushed ls es
-IsFlushed ls (Scans w many ∷ es) = IsFlushed ls es
+IsFlushed ls (Scans w apart many ∷ es) = IsFlushed ls es
 IsFlushed ls (Stores w x ∷ es) = ⊥
 IsFlushed ls (Logs w ∷ es) = ⊥
 IsFlushed ls (Quiet ∷ es) = IsFlushed ls es
@@ -49,7 +49,7 @@ IsFlushed (k ∷ ks) (Fences ∷ es) = ⊥
 abbrev pub IsTidy : List ℕ → List Effect → Type 0
 IsTidy ls [] = ⊥
 IsTidy ls (Loads w ∷ es) = IsTidy ls es
-IsTidy ls (Scans w many ∷ es) = IsTidy ls es
+IsTidy ls (Scans w apart many ∷ es) = IsTidy ls es
 IsTidy ls (Stores w x ∷ es) = IsTidy (insert_key nat_eq ls (w / 8)) es
 IsTidy ls (Logs w ∷ es) = IsTidy ls es
 IsTidy ls (Flushes l ∷ es) = IsFlushed ls (Flushes l ∷ es)

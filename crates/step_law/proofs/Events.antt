@@ -49,7 +49,7 @@ abbrev EffectFits : Words → Effect → Type 0
 EffectFits heap (Stores w x) = FitsSigned w64 x × FitsSigned w64 (heap w)
 EffectFits heap (Logs w) = FitsSigned w64 (heap w)
 EffectFits heap (Loads w) = Unit {0}
-EffectFits heap (Scans w m) = Unit {0}
+EffectFits heap (Scans w apart m) = Unit {0}
 EffectFits heap (Flushes l) = Unit {0}
 EffectFits heap Fences = Unit {0}
 EffectFits heap Quiet = Unit {0}
@@ -74,7 +74,7 @@ module _ (s : Sizes) (a : ℕ) where
       → step_events s a n g (flat_map played_by es) ≡ events_all s a n heap es
   events_same n heap g [] same fit = refl
   events_same n heap g (Loads w ∷ es) same fit = events_same n heap g es same fit.1
-  events_same n heap g (Scans w m ∷ es) same fit = events_same n heap g es same fit.1
+  events_same n heap g (Scans w apart m ∷ es) same fit = events_same n heap g es same fit.1
   events_same n heap g (Stores w x ∷ es) same fit =
       let word : cast_signed w64 (unsigned x) ≡ x = to_z-of_z w64 x fit.0.0 in
       let later : ℕ → ℕ = λ u. if u == w then unsigned x else g u in
@@ -132,7 +132,7 @@ asked_fits policy.RollBack heap (Stores u x) w fit asked =
     let same : u ≡ w = cc in subst (λ (k : ℕ). FitsSigned w64 (heap k)) same fit.1
 asked_fits policy.EndPool heap (Stores u x) w fit asked = absurd (cc)
 asked_fits p heap (Loads u) w fit asked = absurd (cc)
-asked_fits p heap (Scans u m) w fit asked = absurd (cc)
+asked_fits p heap (Scans u apart m) w fit asked = absurd (cc)
 asked_fits p heap (Flushes l) w fit asked = absurd (cc)
 asked_fits p heap Fences w fit asked = absurd (cc)
 asked_fits p heap Quiet w fit asked = absurd (cc)
@@ -148,7 +148,7 @@ unlisted_asked ws (Some u) w e = by (list_any (nat_eq u) ws) e
 bare_fits : (heap : Words) (e : Effect) → EffectFits heap e → EffectFits heap (bare e)
 bare_fits heap (Logs w) fit = tt
 bare_fits heap (Loads w) fit = tt
-bare_fits heap (Scans w m) fit = tt
+bare_fits heap (Scans w apart m) fit = tt
 bare_fits heap (Stores w x) fit = fit
 bare_fits heap (Flushes l) fit = tt
 bare_fits heap Fences fit = tt

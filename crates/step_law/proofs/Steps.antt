@@ -41,6 +41,7 @@ use Rattle.c_fragment.specs.State.{variables_of}
 use Rattle.c_fragment.specs.Meaning.{CStep, Goes, Traps, c_does, assign, jump_to, recorded}
 use Rattle.c_fragment.specs.Meaning.{after_record, flush_first, function_entered, function_left}
 use Rattle.c_fragment.specs.Translation.{statement_of, c_function}
+use Rattle.pm_machine.proofs.Range.{heap_few}
 use Rattle.step_law.specs.Law.{IsPrintable}
 use Rattle.step_law.specs.inside.Standing.{HoldsBits, IsOpenAs, IsWaitingFor, WaitsAlike}
 use Rattle.step_law.specs.inside.Standing.{MirrorsState, TurnsAgree}
@@ -113,8 +114,7 @@ module _ (image : Image) (heap : Words) (s : State) (c : CState)
   here = s.top.place
 
   small : H ≤ 2 ^ 63
-  small = (let slots = image.parts.sizes.slots_fit.1 in
-      let words = image.parts.sizes.root_words_fit.1 in omega (arith, slots, words))
+  small = omega (arith, heap_few image.parts.sizes)
 
   abbrev at : ℕ → ℤ
   at a = read_register s a

@@ -29,7 +29,7 @@ use Rattle.c_fragment.specs.Translation.{c_function}
 -- what the runtime does to the pool in an effect; words are taken modulo 2^64
 abbrev pub played_by : Effect → List PoolStep
 played_by (Loads w) = []
-played_by (Scans w m) = []
+played_by (Scans w apart m) = []
 played_by (Stores w x) = Stored w (unsigned x) ∷ []
 played_by (Logs w) = Recorded w ∷ []
 played_by (Flushes l) = Flushed l ∷ []

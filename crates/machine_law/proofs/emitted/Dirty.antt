@@ -141,10 +141,11 @@ each_below H n (l ∷ ls) fits lines q h =
 pub few_lines : FewLines
 few_lines image s clean =
     length-le_from_distinct_below s.dirty
-    (root_lines image.parts.sizes + 2 * image.parts.sizes.slots) clean.distinct
+    (root_lines image.parts.sizes + image.parts.sizes.slot_lines * image.parts.sizes.slots)
+    clean.distinct
     (each_below (heap_words image.parts.sizes)
-    (root_lines image.parts.sizes + 2 * image.parts.sizes.slots) s.dirty (omega arith)
-    clean.lines)
+    (root_lines image.parts.sizes + image.parts.sizes.slot_lines * image.parts.sizes.slots)
+    s.dirty (omega arith) clean.lines)
 
 -- a step makes at most one more line dirty
 module _ (image : Image) (heap : Words) (s : State) where

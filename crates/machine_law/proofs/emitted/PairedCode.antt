@@ -1,12 +1,13 @@
 -- In emitted code a STORE comes right after each LOG.
 use Rattle.std.proofs.Common.{ℕ, zero, suc, ◌+◌, ◌^◌, Bool, true, false, List, [], ◌∷◌, ◌++◌}
 use Rattle.std.proofs.Common.{length, map, Option, Some, None, ℤ, refl, sym, subst}
-use Rattle.std.specs.Prelude.{if◌then◌else◌, nat_lt}
+use Rattle.std.specs.Prelude.{if◌then◌else◌, nat_le, nat_lt}
 use Rattle.std.specs.List.{AllByRecursion}
 use Rattle.std.proofs.lemmas.List.{map-append}
 use Rattle.nvm_base.specs.declared.op.BinOp.{BinOp}
 use Rattle.pool_map.specs.declared.shapes.Shapes.{Shapes}
 use Rattle.pool_layout.specs.declared.limits.Sizes.{Sizes}
+use Rattle.pool_layout.specs.Sizes.{slot_words}
 use Rattle.ir.specs.declared.instruction.Target.{Target}
 use Rattle.ir.specs.declared.instruction.Target.TheVariants.{Root, Field}
 use Rattle.ir.specs.declared.instruction.Instruction.{Instruction}
@@ -18,7 +19,8 @@ use Rattle.pm_alloc.specs.declared.local.Reg.TheVariants.{Own, Temp}
 use Rattle.pm_alloc.specs.declared.local.Local.{Local}
 use Rattle.pm_alloc.specs.declared.local.Local.TheVariants.{Mov, Bin, Jmp, Jz, Trap}
 use Rattle.pm_alloc.specs.Placing.{sum, placed}
-use Rattle.pm_alloc.specs.Pieces.{fill_code, new_head, new_code}
+use Rattle.pm_alloc.specs.Pieces.{fill_code, loop_fill, fills_by_loop, filling, new_head}
+use Rattle.pm_alloc.specs.Pieces.{new_code}
 use Rattle.codegen.specs.declared.fields.At.{At}
 use Rattle.codegen.specs.declared.fields.At.TheVariants.{Word, Element}
 use Rattle.codegen.specs.declared.fields.Reach.{Reach}
@@ -62,7 +64,8 @@ module _ (s : Sizes) (base p : ℕ) where
 
   address_pairs : (h : Shapes) (t : Target) → ArePaired (at (address_code s h t))
   address_pairs h (Root field index) = root_pairs (root_reach s h field index)
-  address_pairs h (Field b kind field index) = object_pairs b kind (struct_reach h kind field index)
+  address_pairs h (Field b kind field index) =
+      object_pairs b kind (struct_reach s h kind field index)
 
   load_pairs : (to : ℕ) (o : Option ℤ) → ArePaired (at (load_at to o))
   load_pairs to None = tt
@@ -78,15 +81,22 @@ module _ (s : Sizes) (base p : ℕ) where
   fill_pairs true j (suc c) = ((refl, refl), fill_pairs true (j + 1) c)
   fill_pairs false j (suc c) = fill_pairs false (j + 1) c
 
+  filling_pairs : (b d : Bool) (c : ℕ)
+      → ArePaired (at (if d then loop_fill s b 8 c else fill_code s b 1 c))
+  filling_pairs true true c = ((refl, refl), tt)
+  filling_pairs false true c = tt
+  filling_pairs b false c = fill_pairs b 1 c
+
   head_pairs : (kind n : ℕ) → ArePaired (at (new_head s kind n))
   head_pairs kind n = ((refl, refl), tt)
 
   new_pairs : (to kind c : ℕ) (b : Bool) → ArePaired (at (new_code s to kind c b))
   new_pairs to kind c b =
-      let fill : List Local = fill_code s b 1 c in
+      let fill : List Local = filling s b 8 c in
       joined (new_head s kind (length fill)) (fill ++ Mov (Own to) (Temp 0) ∷ [])
       (head_pairs kind (length fill))
-      (joined fill (Mov (Own to) (Temp 0) ∷ []) (fill_pairs b 1 c) tt)
+      (joined fill (Mov (Own to) (Temp 0) ∷ []) (filling_pairs b (fills_by_loop s c) c)
+      tt)
 
   made_if : (to kind c : ℕ) (b d : Bool)
       → ArePaired (at (if d then Trap 2 ∷ [] else new_code s to kind c b))
@@ -95,7 +105,7 @@ module _ (s : Sizes) (base p : ℕ) where
 
   made_pairs : (to kind : ℕ) (b : Bool) (o : Option ℕ) → ArePaired (at (make_words s to kind b o))
   made_pairs to kind b None = tt
-  made_pairs to kind b (Some c) = made_if to kind c b (nat_lt 15 c)
+  made_pairs to kind b (Some c) = made_if to kind c b (nat_le (slot_words s) c)
 
   bin_pairs : (o : BinOp) (to left right : ℕ) (d : Bool)
       → ArePaired (at (if d then Jz (Own right) 2 ∷ Jmp 3 ∷ Trap 4 ∷ Bin o (Own to) (Own left)
@@ -113,7 +123,7 @@ module _ (s : Sizes) (base p : ℕ) where
   local_pairs h b (ir.Store t from line) =
       joined (address_code s h t) (store_at b from (address_offset s h t)) (address_pairs h t)
       (store_pairs b from (address_offset s h t))
-  local_pairs h b (ir.New to kind fill line) = made_pairs to kind fill (object_words h kind)
+  local_pairs h b (ir.New to kind fill line) = made_pairs to kind fill (object_words s h kind)
   local_pairs h b (ir.Free from kind line) = ((refl, refl), tt)
   local_pairs h b ir.Tick = tt
   local_pairs h b (ir.Trap kind) = tt

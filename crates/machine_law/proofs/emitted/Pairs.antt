@@ -89,7 +89,7 @@ module _ (image : Image) where
   abbrev Fits : Option ℕ → StepOutcome → Type 0
   Fits None (Ends e) = Unit {0}
   Fits None (Goes (Loads w) t) = Unit {0}
-  Fits None (Goes (Scans w many) t) = Unit {0}
+  Fits None (Goes (Scans w apart many) t) = Unit {0}
   Fits None (Goes (Stores w x) t) = Unit {0}
   Fits None (Goes (Logs w) t) = IsWaiting image w t
   Fits None (Goes (Flushes l) t) = Unit {0}
@@ -97,7 +97,7 @@ module _ (image : Image) where
   Fits None (Goes Quiet t) = Unit {0}
   Fits (Some u) (Ends e) = ⊥
   Fits (Some u) (Goes (Loads w) t) = ⊥
-  Fits (Some u) (Goes (Scans w many) t) = ⊥
+  Fits (Some u) (Goes (Scans w apart many) t) = ⊥
   Fits (Some u) (Goes (Stores w x) t) = u ≡ w
   Fits (Some u) (Goes (Logs w) t) = ⊥
   Fits (Some u) (Goes (Flushes l) t) = ⊥
@@ -107,7 +107,7 @@ module _ (image : Image) where
   -- the word that waits for its STORE after a step
   abbrev after : Effect → Option ℕ
   after (Loads w) = None
-  after (Scans w many) = None
+  after (Scans w apart many) = None
   after (Stores w x) = None
   after (Logs w) = Some w
   after (Flushes l) = None
@@ -118,13 +118,13 @@ module _ (image : Image) where
       → Waits (after e) t
   still_waits None (Logs w) t fits = fits
   still_waits None (Loads w) t fits = tt
-  still_waits None (Scans w many) t fits = tt
+  still_waits None (Scans w apart many) t fits = tt
   still_waits None (Stores w x) t fits = tt
   still_waits None (Flushes l) t fits = tt
   still_waits None Fences t fits = tt
   still_waits None Quiet t fits = tt
   still_waits (Some u) (Loads w) t fits = absurd fits
-  still_waits (Some u) (Scans w many) t fits = absurd fits
+  still_waits (Some u) (Scans w apart many) t fits = absurd fits
   still_waits (Some u) (Stores w x) t fits = tt
   still_waits (Some u) (Logs w) t fits = absurd fits
   still_waits (Some u) (Flushes l) t fits = absurd fits
@@ -134,14 +134,15 @@ module _ (image : Image) where
   one_more : (last : Option ℕ) (e : Effect) (t : State) (es : List Effect) → Fits last (Goes e t)
       → IsPaired (after e) (seen_all es) → IsPaired last (seen_all (e ∷ es))
   one_more None (Loads w) t es fits rest = rest
-  one_more None (Scans w many) t es fits rest = pair_headers None w many (seen_all es) rest
+  one_more None (Scans w apart many) t es fits rest =
+      pair_headers None w apart many (seen_all es) rest
   one_more None (Stores w x) t es fits rest = rest
   one_more None (Logs w) t es fits rest = rest
   one_more None (Flushes l) t es fits rest = rest
   one_more None Fences t es fits rest = rest
   one_more None Quiet t es fits rest = rest
   one_more (Some u) (Loads w) t es fits rest = absurd fits
-  one_more (Some u) (Scans w many) t es fits rest = absurd fits
+  one_more (Some u) (Scans w apart many) t es fits rest = absurd fits
   one_more (Some u) (Stores w x) t es fits rest = (fits, rest)
   one_more (Some u) (Logs w) t es fits rest = absurd fits
   one_more (Some u) (Flushes l) t es fits rest = absurd fits

@@ -16,7 +16,7 @@ use Rattle.pm_machine.specs.declared.effect.Effect.{Effect}
 use Rattle.pm_machine.specs.declared.effect.Effect.TheVariants.{Loads, Scans, Stores, Logs, Quiet}
 use Rattle.pm_machine.specs.declared.effect.End.TheVariants.{Trapped}
 use Rattle.pool_map.specs.declared.trap.TrapKind.TheVariants as trap
-use Rattle.pool_layout.specs.Sizes.{slot_word}
+use Rattle.pool_layout.specs.Sizes.{slot_words, slot_word}
 use Rattle.pm_machine.specs.declared.image.Image.{Image}
 use Rattle.pm_machine.specs.Find.{least, looks}
 use Rattle.pm_machine.specs.declared.op.Op.{Op}
@@ -243,8 +243,10 @@ module _ (image : Image) (x : Setting) (n : ℕ) (room : x.base + 8 < 2 ^ 32)
         wrote l.at l.own l.temp (local.searched image.parts.sizes l.world) r
         (pos (least image.parts.sizes l.world.heap)) (pos (least image.parts.sizes l.world.heap))
         regs dirty
-        (Scans (slot_word image.parts.sizes 1) (looks image.parts.sizes l.world.heap) ∷ seen) h
-        (ap (λ (es : List Effect). Scans (slot_word image.parts.sizes 1)
+        (Scans (slot_word image.parts.sizes 1) (slot_words image.parts.sizes)
+        (looks image.parts.sizes l.world.heap) ∷ seen) h
+        (ap (λ (es : List Effect).
+        Scans (slot_word image.parts.sizes 1) (slot_words image.parts.sizes)
         (looks image.parts.sizes l.world.heap) ∷ es) hear) is refl
     act_as (Store a o b) is =
         subst (λ (z : ℤ). Follows x (local.local_store l (local_read l.own l.temp b)

@@ -1,10 +1,12 @@
 -- Pieces that only lead forward end.
 use Rattle.std.proofs.Common.{◌≡◌, ◌⊎◌, inl, inr, ℕ, zero, suc, ◌+◌, ◌-◌, ◌<◌, ◌≤◌, Bool, true}
 use Rattle.std.proofs.Common.{false, List, [], ◌∷◌, ◌++◌, length, slice_get, Option, Some, None, ℤ}
-use Rattle.std.proofs.Common.{pos, negsuc, refl, sym, ap, subst, arith, length-append, ◌*◌}
-use Rattle.std.specs.Prelude.{if◌then◌else◌, nat_lt}
+use Rattle.std.proofs.Common.{pos, negsuc, refl, sym, ap, ◌∙◌, subst, arith, length-append}
+use Rattle.std.proofs.Common.{get_or, ◌*◌}
+use Rattle.std.specs.Prelude.{if◌then◌else◌, nat_le, nat_lt, ◌&&◌}
 use Rattle.std.specs.List.{AllByRecursion}
-use Rattle.std.proofs.lemmas.Bool.{cases_lt, ltb-false}
+use Rattle.std.specs.Option.{option_map_or}
+use Rattle.std.proofs.lemmas.Bool.{cases_lt, leb-false, ltb-false}
 use Rattle.cache_model.specs.Cache.{Words}
 use Rattle.nvm_base.specs.declared.op.BinOp.{BinOp}
 use Rattle.nvm_base.specs.Applied.{applied}
@@ -12,8 +14,10 @@ use Rattle.pm_machine.specs.declared.effect.Effect.TheVariants.{Loads}
 use Rattle.pm_machine.specs.Find.{least}
 use Rattle.pool_map.specs.declared.shapes.Shapes.{Shapes}
 use Rattle.pool_layout.specs.declared.limits.Sizes.{Sizes}
+use Rattle.pool_layout.specs.Sizes.{slot_words}
 use Rattle.ir.specs.declared.instruction.Target.{Target}
 use Rattle.ir.specs.declared.instruction.Target.TheVariants.{Root, Field}
+use Rattle.ir.specs.declared.instruction.Instruction.{Instruction}
 use Rattle.ir.specs.declared.instruction.Instruction.TheVariants as ir
 use Rattle.pm_alloc.specs.declared.local.Reg.{Reg}
 use Rattle.pm_alloc.specs.declared.local.Reg.TheVariants.{Own, Temp}
@@ -29,12 +33,19 @@ use Rattle.codegen.specs.declared.fields.At.TheVariants.{Word, Element}
 use Rattle.codegen.specs.declared.fields.Reach.{Reach}
 use Rattle.codegen.specs.Fields.{root_reach, struct_reach, object_words}
 use Rattle.codegen.specs.Emit.{at_code, root_code, object_code, address_code, address_offset}
-use Rattle.codegen.specs.Emit.{load_at, store_at, make_words, divides}
-use Rattle.pm_alloc.specs.Pieces.{pointer_check, fill_code, new_head, new_code}
+use Rattle.codegen.specs.Emit.{load_at, store_at, make_words, divides, local_code}
+use Rattle.pm_alloc.specs.Pieces.{pointer_check, fill_code, loop_fill, fills_by_loop, filling}
+use Rattle.pm_alloc.specs.Pieces.{new_head, new_code}
+use Rattle.pm_alloc.specs.declared.objects.TheConstants.{UNROLLED_SLOT}
+use Rattle.pm_alloc.specs.Search.{temporaries, IsPool}
+use Rattle.pm_alloc.proofs.New.{new_runs}
 use Rattle.pm_alloc.proofs.Runs.{run_on}
-use Rattle.machine_law.specs.emitted.Moments.{RunStage, On, Over, go}
-use Rattle.machine_law.specs.emitted.Placed.{IsFine, Setting, Follows}
+use Rattle.pm_alloc.proofs.Search.{eight_are}
+use Rattle.pm_machine.specs.declared.image.Image.{Image}
+use Rattle.machine_law.specs.emitted.Moments.{RunMoment, RunStage, On, Over, go}
+use Rattle.machine_law.specs.emitted.Placed.{IsFine, Setting, Same, IsPlaced, Follows}
 use Rattle.machine_law.specs.emitted.Steps.{AreForward, PieceSettles, ForwardLaw, ForwardCode}
+use Rattle.machine_law.specs.emitted.Steps.{piece_steps, SettlesLaw}
 use Rattle.machine_law.proofs.emitted.Placed.{run_as, fine_at}
 
 -- a step leads to a later place, at most m
@@ -244,7 +255,7 @@ forward_append k (x ∷ xs) ys h rest =
     forward_more k (Trap t) ls h rest = rest
 
 -- the piece leads forward, and has at most n instructions
-abbrev IsShort : ℕ → List Local → Type 0
+abbrev pub IsShort : ℕ → List Local → Type 0
 IsShort n piece = AreForward 0 piece × (length piece ≤ n)
 
 pointer_forward : (s : Sizes) (p kind : ℕ) → AreForward 0 (pointer_check s p kind)
@@ -272,16 +283,16 @@ object_short s base kind (Some r) = (
   omega (arith, at_length 12 r.at, length-append (pointer_check s base kind) (at_code 12 r.at)),
 )
 
-address_short : (s : Sizes) (h : Shapes) (t : Target) → IsShort 18 (address_code s h t)
+pub address_short : (s : Sizes) (h : Shapes) (t : Target) → IsShort 18 (address_code s h t)
 address_short s h (Root field index) = root_short (root_reach s h field index)
 address_short s h (Field base kind field index) =
-    object_short s base kind (struct_reach h kind field index)
+    object_short s base kind (struct_reach s h kind field index)
 
 load_forward : (k to : ℕ) (o : Option ℤ) → AreForward k (load_at to o)
 load_forward k to None = tt
 load_forward k to (Some o) = tt
 
-load_length : (to : ℕ) (o : Option ℤ) → length (load_at to o) ≤ 1
+pub load_length : (to : ℕ) (o : Option ℤ) → length (load_at to o) ≤ 1
 load_length to None = omega arith
 load_length to (Some o) = omega arith
 
@@ -290,10 +301,14 @@ store_forward k b from None = tt
 store_forward k true from (Some o) = tt
 store_forward k false from (Some o) = tt
 
-store_length : (b : Bool) (from : ℕ) (o : Option ℤ) → length (store_at b from o) ≤ 2
+pub store_length : (b : Bool) (from : ℕ) (o : Option ℤ) → length (store_at b from o) ≤ 2
 store_length b from None = omega arith
 store_length true from (Some o) = omega arith
 store_length false from (Some o) = omega arith
+
+-- a piece as short as any for slots of 16 words
+loose : (s : Sizes) (piece : List Local) → IsShort 39 piece → IsShort (piece_steps s) piece
+loose s piece h = (h.0, omega (arith, h.1))
 
 bin_short : (o : BinOp) (to left right : ℕ) (d : Bool) →
     IsShort 39 (if d then Jz (Own right) 2 ∷ Jmp 3 ∷ Trap 4 ∷ Bin o (Own to) (Own left) (Own right)
@@ -306,12 +321,15 @@ fill_forward s k b j zero = tt
 fill_forward s k true j (suc c) = fill_forward s (suc (suc k)) true (j + 1) c
 fill_forward s k false j (suc c) = fill_forward s (suc k) false (j + 1) c
 
-fill_length : (s : Sizes) (b : Bool) (j c : ℕ) → length (fill_code s b j c) ≤ 2 * c
+pub fill_length : (s : Sizes) (b : Bool) (j c : ℕ) → length (fill_code s b j c) ≤ 2 * c
 fill_length s b j zero = omega arith
 fill_length s true j (suc c) = omega (arith, fill_length s true (j + 1) c)
 fill_length s false j (suc c) = omega (arith, fill_length s false (j + 1) c)
 
-new_short : (s : Sizes) (to kind c : ℕ) (b : Bool) → c ≤ 15 → IsShort 39 (new_code s to kind c b)
+-- the code of a new object without a loop
+new_short : (s : Sizes) (to kind c : ℕ) (b : Bool) → c < slot_words s →
+    let fill : List Local = fill_code s b 1 c in
+    IsShort (piece_steps s) (new_head s kind (length fill) ++ (fill ++ Mov (Own to) (Temp 0) ∷ []))
 new_short s to kind c b few =
     let fill : List Local = fill_code s b 1 c in
     let last : List Local = Mov (Own to) (Temp 0) ∷ [] in (
@@ -324,30 +342,42 @@ new_short s to kind c b few =
       ),
     )
 
-short_if : (s : Sizes) (to kind c : ℕ) (b d : Bool) → nat_lt 15 c ≡ d →
-    IsShort 39 (if d then Trap 2 ∷ [] else new_code s to kind c b)
-short_if s to kind c b true e = (tt, omega arith)
-short_if s to kind c b false e = new_short s to kind c b (ltb-false 15 c e)
+filled_short : (s : Sizes) (to kind c : ℕ) (b d : Bool) → d ≡ false → c < slot_words s →
+    let fill : List Local = if d then loop_fill s b 8 c else fill_code s b 1 c in
+    IsShort (piece_steps s) (new_head s kind (length fill) ++ (fill ++ Mov (Own to) (Temp 0) ∷ []))
+filled_short s to kind c b true e few = absurd (cc)
+filled_short s to kind c b false e few = new_short s to kind c b few
 
-made_short : (s : Sizes) (to kind : ℕ) (b : Bool) (o : Option ℕ) →
-    IsShort 39 (make_words s to kind b o)
-made_short s to kind b None = (tt, omega arith)
-made_short s to kind b (Some c) = short_if s to kind c b (nat_lt 15 c) refl
+short_if : (s : Sizes) (to kind c : ℕ) (b d : Bool) → fills_by_loop s c ≡ false
+    → nat_le (slot_words s) c ≡ d →
+    IsShort (piece_steps s) (if d then Trap 2 ∷ [] else new_code s to kind c b)
+short_if s to kind c b true plain e = (tt, omega arith)
+short_if s to kind c b false plain e =
+    filled_short s to kind c b (fills_by_loop s c) plain (leb-false (slot_words s) c e)
 
-pub forward_code : ForwardCode
-forward_code s h b (ir.Const to value) = (tt, omega arith)
-forward_code s h b (ir.Copy to from) = (tt, omega arith)
-forward_code s h b (ir.Bin o to left right) = bin_short o to left right (divides o)
-forward_code s h b (ir.Jump place) = (tt, omega arith)
-forward_code s h b (ir.Branch on place) = (tt, omega arith)
-forward_code s h b (ir.Load to t) =
+made_short : (s : Sizes) (to kind : ℕ) (b : Bool) (o : Option ℕ)
+    → option_map_or (fills_by_loop s) o false ≡ false →
+    IsShort (piece_steps s) (make_words s to kind b o)
+made_short s to kind b None plain = (tt, omega arith)
+made_short s to kind b (Some c) plain =
+    short_if s to kind c b (nat_le (slot_words s) c) plain refl
+
+abbrev makes_object : Instruction → Bool
+makes_object (ir.New to kind fill line) = true
+makes_object i = false
+
+-- the pieces of the other instructions
+others_short : (s : Sizes) (h : Shapes) (b : Bool) (i : Instruction) → makes_object i ≡ false
+    → IsShort 39 (local_code s h b i)
+others_short s h b (ir.Bin o to left right) e = bin_short o to left right (divides o)
+others_short s h b (ir.Load to t) e =
     let checks = address_short s h t in
     let o : Option ℤ = address_offset s h t in (
       forward_append 0 (address_code s h t) (load_at to o) checks.0
           (load_forward (0 + length (address_code s h t)) to o),
       omega (arith, checks.1, load_length to o, length-append (address_code s h t) (load_at to o)),
     )
-forward_code s h b (ir.Store t from line) =
+others_short s h b (ir.Store t from line) e =
     let checks = address_short s h t in
     let o : Option ℤ = address_offset s h t in (
       forward_append 0 (address_code s h t) (store_at b from o) checks.0
@@ -359,11 +389,112 @@ forward_code s h b (ir.Store t from line) =
         length-append (address_code s h t) (store_at b from o),
       ),
     )
-forward_code s h b (ir.New to kind fill line) = made_short s to kind fill (object_words h kind)
-forward_code s h b (ir.Free from kind line) =
+others_short s h b (ir.New to kind fill line) e = absurd (cc)
+others_short s h b (ir.Free from kind line) e =
     ((omega arith, (omega arith, (omega arith, tt))), omega arith)
-forward_code s h b (ir.Call to function args) = (tt, omega arith)
-forward_code s h b (ir.Return from) = (tt, omega arith)
-forward_code s h b ir.Tick = (tt, omega arith)
-forward_code s h b (ir.Trap kind) = (tt, omega arith)
-forward_code s h b (ir.Log t) = (tt, omega arith)
+others_short s h b i e = (tt, omega arith)
+
+pub forward_code : ForwardCode
+forward_code s h b (ir.New to kind fill line) plain =
+    made_short s to kind fill (object_words s h kind) plain
+forward_code s h b i plain =
+    loose s (local_code s h b i) (others_short s h b i refl)
+
+-- the code of each instruction has at most 55 instructions
+
+filling_length : (s : Sizes) (b d : Bool) (c : ℕ) → fills_by_loop s c ≡ d → c < slot_words s
+    → length (if d then loop_fill s b 8 c else fill_code s b 1 c) ≤ 46
+filling_length s true true c e few = omega arith
+filling_length s false true c e few = omega arith
+filling_length s b false c e few = by (nat_lt UNROLLED_SLOT (slot_words s)) refl
+  where
+    by : (d : Bool) → nat_lt UNROLLED_SLOT (slot_words s) ≡ d → length (fill_code s b 1 c) ≤ 46
+    by false wide = omega (
+      arith,
+      fill_length s b 1 c,
+      ltb-false UNROLLED_SLOT (slot_words s) wide,
+    )
+    by true wide =
+        let none : nat_lt 0 c ≡ false =
+        sym (ap (λ (d : Bool). d && nat_lt 0 c) wide) ∙ e in
+        omega (arith, fill_length s b 1 c, ltb-false 0 c none)
+
+made_length_if : (s : Sizes) (to kind c : ℕ) (b d : Bool) → nat_le (slot_words s) c ≡ d
+    → length (if d then Trap 2 ∷ [] else new_code s to kind c b) ≤ 55
+made_length_if s to kind c b true e = omega arith
+made_length_if s to kind c b false e =
+    let fill : List Local = filling s b 8 c in
+    let last : List Local = Mov (Own to) (Temp 0) ∷ [] in
+    omega (
+      arith,
+      filling_length s b (fills_by_loop s c) c refl (leb-false (slot_words s) c e),
+      length-append (new_head s kind (length fill)) (fill ++ last),
+      length-append fill last,
+    )
+
+made_length : (s : Sizes) (to kind : ℕ) (b : Bool) (o : Option ℕ)
+    → length (make_words s to kind b o) ≤ 55
+made_length s to kind b None = omega arith
+made_length s to kind b (Some c) = made_length_if s to kind c b (nat_le (slot_words s) c) refl
+
+pub code_length : (s : Sizes) (h : Shapes) (b : Bool) (i : Instruction)
+    → length (local_code s h b i) ≤ 55
+code_length s h b (ir.New to kind fill line) =
+    made_length s to kind fill (object_words s h kind)
+code_length s h b i = omega (arith, (others_short s h b i refl).1)
+
+-- each piece settles, from its start
+module _ (image : Image) (x : Setting) (l : Loc) (m : RunMoment) (at : l.at ≡ 0) (same : Same x l m)
+    (pool : IsPool image.parts.sizes) where
+  abbrev sizes : Sizes
+  sizes = image.parts.sizes
+
+  abbrev Settles : List Local → Type 0
+  Settles piece = IsPlaced image x.function x.base x.place piece → (n : ℕ)
+      × (n ≤ piece_steps sizes) × PieceSettles x piece (go image n m)
+
+  settles_short : (piece : List Local) → IsShort (piece_steps sizes) piece → Settles piece
+  settles_short piece short placed =
+      let f = forward_all image x piece l m placed short.0 same (omega (arith, at)) in
+      (f.0, omega (arith, f.1, short.1), f.2)
+
+  starts : l ≡ record {
+    at = 0;
+    own = l.own;
+    temp = temporaries (λ j. get_or l.temp j (pos 0));
+    world = l.world;
+  }
+  starts =
+      ap (λ (n : ℕ). record { at = n; own = l.own; temp = l.temp; world = l.world }) at
+      ∙ ap (λ (ts : List ℤ). record { at = 0; own = l.own; temp = ts; world = l.world })
+      (sym (eight_are l.temp same.holds.eight))
+
+  settles_new : (to kind c : ℕ) (b : Bool) → c < slot_words sizes
+      → Settles (new_code sizes to kind c b)
+  settles_new to kind c b short placed =
+      let piece : List Local = new_code sizes to kind c b in
+      let r = new_runs sizes to kind c b l.own (λ j. get_or l.temp j (pos 0)) l.world pool short in
+      let left : Left (length piece) (local_run (local_step sizes piece) r.steps l) =
+      subst (λ (k : Loc). Left (length piece) (local_run (local_step sizes piece) r.steps k))
+      (sym starts) (subst (Left (length piece)) (sym r.run) refl) in (
+        r.steps,
+        r.few,
+        settled x piece (local_run (local_step sizes piece) r.steps l) (go image r.steps m)
+            (run_as image x piece placed r.steps l m same) left,
+      )
+
+  settles_if : (to kind c : ℕ) (b d : Bool) → nat_le (slot_words sizes) c ≡ d
+      → Settles (if d then Trap 2 ∷ [] else new_code sizes to kind c b)
+  settles_if to kind c b true e = settles_short (Trap 2 ∷ []) (tt, omega arith)
+  settles_if to kind c b false e = settles_new to kind c b (leb-false (slot_words sizes) c e)
+
+  settles_made : (to kind : ℕ) (b : Bool) (o : Option ℕ) → Settles (make_words sizes to kind b o)
+  settles_made to kind b None = settles_short (Trap 2 ∷ []) (tt, omega arith)
+  settles_made to kind b (Some c) = settles_if to kind c b (nat_le (slot_words sizes) c) refl
+
+  pub settles : (h : Shapes) (b : Bool) (i : Instruction) → Settles (local_code sizes h b i)
+  settles h b (ir.New to kind fill line) = settles_made to kind fill (object_words sizes h kind)
+  settles h b i = settles_short (local_code sizes h b i) (forward_code sizes h b i refl)
+
+pub settles_all : SettlesLaw
+settles_all image x h b i l m placed at same pool = settles image x l m at same pool h b i placed

@@ -184,7 +184,7 @@ module _ (image : Image) (tidy : (f : ℕ) → IsTidyCode (slice_get image.parts
     Kept (Ends (Halted v)) = ⊥
     Kept (Ends (Trapped k)) = Unit {0}
     Kept (Goes (Loads w) t) = OpenFramesTidy image t × (t.dirty ≡ s.dirty)
-    Kept (Goes (Scans w many) t) = OpenFramesTidy image t × (t.dirty ≡ s.dirty)
+    Kept (Goes (Scans w apart many) t) = OpenFramesTidy image t × (t.dirty ≡ s.dirty)
     Kept (Goes (Stores w x) t) = OpenFramesTidy image t
         × (t.dirty ≡ insert_key nat_eq s.dirty (w / 8))
     Kept (Goes (Logs w) t) = OpenFramesTidy image t × (t.dirty ≡ s.dirty)
@@ -194,7 +194,7 @@ module _ (image : Image) (tidy : (f : ℕ) → IsTidyCode (slice_get image.parts
 
     kept_opens : (e : Effect) (t : State) → Kept (Goes e t) → OpenFramesTidy image t
     kept_opens (Loads w) t h = h.0
-    kept_opens (Scans w many) t h = h.0
+    kept_opens (Scans w apart many) t h = h.0
     kept_opens (Stores w x) t h = h.0
     kept_opens (Logs w) t h = h.0
     kept_opens (Flushes l) t h = absurd h
@@ -204,10 +204,10 @@ module _ (image : Image) (tidy : (f : ℕ) → IsTidyCode (slice_get image.parts
     one_tidy : (e : Effect) (t : State) (end : End) (rest : List Effect) → Kept (Goes e t)
         → IsTidyEnd t.dirty end rest → IsTidyEnd s.dirty end (e ∷ rest)
     one_tidy (Loads w) t (Halted v) rest kept h = subst (λ (ls : List ℕ). IsTidy ls rest) kept.1 h
-    one_tidy (Scans w many) t (Halted v) rest kept h =
+    one_tidy (Scans w apart many) t (Halted v) rest kept h =
         subst (λ (ls : List ℕ). IsTidy ls rest) kept.1 h
     one_tidy (Loads w) t (Trapped k) rest kept h = h
-    one_tidy (Scans w many) t (Trapped k) rest kept h = h
+    one_tidy (Scans w apart many) t (Trapped k) rest kept h = h
     one_tidy (Stores w x) t (Halted v) rest kept h =
         subst (λ (ls : List ℕ). IsTidy ls rest) kept.1 h
     one_tidy (Stores w x) t (Trapped k) rest kept h = h

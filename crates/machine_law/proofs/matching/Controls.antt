@@ -129,7 +129,8 @@ module _ (image : Image) (program : Ir) (c : IsCodeOf image program) (f p : ℕ)
       (table_of image.parts.sizes program.shapes u) (to_place p) marked i) 0 ≡ Some o →
       MovesToo image program [] mv m
       (staged m (machine.execute image m.heap m.state (Some o))) →
-      (n : ℕ) × (n ≤ own_steps + flushes mv m) × MovesToo image program [] mv m (go image n m)
+      (n : ℕ) × (n ≤ own_steps image.parts.sizes + flushes mv m)
+      × MovesToo image program [] mv m (go image n m)
   one_step i o mv e there h = (
     suc zero,
     omega arith,
@@ -252,7 +253,7 @@ module _ (image : Image) (program : Ir) (c : IsCodeOf image program) (f p : ℕ)
 
     -- the return of a transaction
     ends : u.tx ≡ true →
-        (n : ℕ) × (n ≤ own_steps + length m.state.dirty)
+        (n : ℕ) × (n ≤ own_steps image.parts.sizes + length m.state.dirty)
         × MovesToo image program [] (code.Ends (code.Ended w (register_at regs from) t)) m
         (go image n m)
     ends tx =
@@ -282,7 +283,7 @@ module _ (image : Image) (program : Ir) (c : IsCodeOf image program) (f p : ℕ)
     -- the return of a called function
     back : (h q : ℕ) (rs : List ℤ) (r : ℕ) (cs : List code.Frame) → u.tx ≡ false
         → Waits image.parts.sizes program m.state.top.to (code.frame h q rs r ∷ cs) m.state.below →
-        (n : ℕ) × (n ≤ own_steps + 0)
+        (n : ℕ) × (n ≤ own_steps image.parts.sizes + 0)
         × MovesToo image program [] (code.Goes
         (Here h q (put_register rs r (register_at regs from)) cs w t)) m (go image n m)
     back h q rs r cs tx waits =
@@ -336,7 +337,8 @@ module _ (image : Image) (program : Ir) (c : IsCodeOf image program) (f p : ℕ)
 
     gives_back : (cs : List code.Frame) → u.tx ≡ is_outermost cs
         → Waits image.parts.sizes program m.state.top.to cs m.state.below →
-        (n : ℕ) × (n ≤ own_steps + flushes (gives cs (register_at regs from) w t) m)
+        (n : ℕ)
+        × (n ≤ own_steps image.parts.sizes + flushes (gives cs (register_at regs from) w t) m)
         × MovesToo image program [] (gives cs (register_at regs from) w t) m (go image n m)
     gives_back [] tx waits = ends tx
     gives_back (code.frame h q rs r ∷ cs) tx waits = back h q rs r cs tx waits

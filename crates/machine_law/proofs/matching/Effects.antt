@@ -10,8 +10,8 @@ use Rattle.machine_law.specs.matching.Accesses.{accesses}
 pub accesses_heard : (es : List Effect) → accesses (heard es) ≡ accesses es
 accesses_heard [] = refl
 accesses_heard (Loads w ∷ es) = ap (λ (fs : List Effect). Loads w ∷ fs) (accesses_heard es)
-accesses_heard (Scans w many ∷ es) =
-    ap (λ (fs : List Effect). Scans w many ∷ fs) (accesses_heard es)
+accesses_heard (Scans w apart many ∷ es) =
+    ap (λ (fs : List Effect). Scans w apart many ∷ fs) (accesses_heard es)
 accesses_heard (Stores w x ∷ es) = ap (λ (fs : List Effect). Stores w x ∷ fs) (accesses_heard es)
 accesses_heard (Logs w ∷ es) = ap (λ (fs : List Effect). Logs w ∷ fs) (accesses_heard es)
 accesses_heard (Flushes l ∷ es) = accesses_heard es
@@ -22,7 +22,7 @@ pub accesses_onto : (es seen : List Effect)
     → accesses (onto es seen) ≡ onto (accesses es) (accesses seen)
 accesses_onto [] seen = refl
 accesses_onto (Loads w ∷ es) seen = accesses_onto es (Loads w ∷ seen)
-accesses_onto (Scans w many ∷ es) seen = accesses_onto es (Scans w many ∷ seen)
+accesses_onto (Scans w apart many ∷ es) seen = accesses_onto es (Scans w apart many ∷ seen)
 accesses_onto (Stores w x ∷ es) seen = accesses_onto es (Stores w x ∷ seen)
 accesses_onto (Logs w ∷ es) seen = accesses_onto es (Logs w ∷ seen)
 accesses_onto (Flushes l ∷ es) seen = accesses_onto es (Flushes l ∷ seen)

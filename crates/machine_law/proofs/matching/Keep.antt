@@ -93,7 +93,7 @@ kept_all piece_law fits_law shows_law words_law image program k tx entry args he
     (first_moment image program c tx entry found args heap w) words
     (begins image program c tx entry found args heap w stands fits) in
     kept image program (first_moment image program c tx entry found args heap w).state heap all.0
-    (k * most) (omega (arith, all.1))
+    (k * most image.parts.sizes) (omega (arith, all.1))
     (deeds program k (code.code_start entry.function args w image.parts.sizes.ticks))
     (code.exec program k (code.code_start entry.function args w image.parts.sizes.ticks))
     (word_run words_law program k (code.code_start entry.function args w image.parts.sizes.ticks)

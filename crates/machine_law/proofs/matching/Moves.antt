@@ -5,9 +5,10 @@ use Rattle.pool_map.specs.declared.trap.TrapKind.{TrapKind}
 use Rattle.pool_map.specs.Trap.{trap_number}
 use Rattle.pool_map.specs.PoolMap.{PoolMap}
 use Rattle.pool_layout.specs.declared.limits.Sizes.{Sizes}
+use Rattle.pool_layout.specs.Sizes.{slot_words}
 use Rattle.ir.specs.declared.site.Site.{Site}
 use Rattle.ir.specs.declared.function.Ir.{Ir}
-use Rattle.code_meaning.specs.Code.{CodeState, Here, Move}
+use Rattle.code_meaning.specs.Code.{Here, Move}
 use Rattle.code_meaning.specs.Code as code
 use Rattle.code_meaning.specs.Deeds.{Deed, deeds_at}
 use Rattle.ir.specs.declared.instruction.Instruction.{Instruction}
@@ -37,7 +38,8 @@ shown_accesses s logged ds es done = refl
 shown_accesses s logged ds es (looks {ds = cs} {es = fs} q there h) =
     ap (λ (gs : List Effect). Loads (header_word s q) ∷ gs) (shown_accesses s logged cs fs h)
 shown_accesses s logged ds es (scans {ds = cs} {es = fs} n few h) =
-    ap (λ (gs : List Effect). Scans (header_word s 1) n ∷ gs) (shown_accesses s logged cs fs h)
+    ap (λ (gs : List Effect). Scans (header_word s 1) (slot_words s) n ∷ gs)
+    (shown_accesses s logged cs fs h)
 shown_accesses s logged ds es (reads {ds = cs} {es = fs} x there h) =
     ap (λ (gs : List Effect). Loads (heap_word s x) ∷ gs) (shown_accesses s logged cs fs h)
 shown_accesses s logged ds es (plain {ds = cs} {es = fs} site x v there is h) =
@@ -62,7 +64,7 @@ seen_is es seen before hear only =
 abbrev pub Steps : Image → Ir → (f p : ℕ) → List ℤ → List code.Frame → PoolMap → (t : ℕ) → RunMoment
     → Option Instruction → Type 0
 Steps image ir f p regs callers w t m o =
-    (n : ℕ) × (n ≤ own_steps + flushes (code.act ir o f p regs callers w t) m)
+    (n : ℕ) × (n ≤ own_steps image.parts.sizes + flushes (code.act ir o f p regs callers w t) m)
     × MovesToo image ir (deeds_at ir.shapes f p regs w o) (code.act ir o f p regs callers w t) m
     (go image n m)
 

@@ -64,17 +64,18 @@ module _ (image : Image) (program : Ir) where
       (words_law : WordsLaw) (c : IsCodeOf image program) where
     abbrev Whole : ℕ → List Deed → code.CodeEnd → RunMoment → Type 0
     Whole k ds e m =
-        (n : ℕ) × (n ≤ k * most + length m.state.dirty)
+        (n : ℕ) × (n ≤ k * most image.parts.sizes + length m.state.dirty)
         × EndsToo image program ds e m (go image n m)
 
     next : (k : ℕ) (ds : List Deed) (m : RunMoment) (n : ℕ) (mv : Move)
-        → n ≤ own_steps + flushes mv m →
+        → n ≤ own_steps image.parts.sizes + flushes mv m →
         IsWordMove mv → MovesToo image program ds mv m (go image n m) →
         ((d : CodeState) (b : RunMoment) → IsWordState d → Match image program d b
         → Whole k (deeds program k d) (exec program k d) b)
         → Whole (suc k) (ds ++ deeds_on (deeds program k) mv) (go_on (exec program k) mv) m
     next k ds m n (code.Goes d) few words h rest =
-        let total : suc k * most ≡ k * most + most = suc-mul k most in
+        let each : ℕ = most image.parts.sizes in
+        let total : suc k * each ≡ k * each + each = suc-mul k each in
         let r = rest d h.to words h.match in
         let dirty : length h.to.state.dirty ≤ length m.state.dirty + n =
         grow_all image n m h.to h.is in (
@@ -87,7 +88,8 @@ module _ (image : Image) (program : Ir) where
               (exec program k d) r.2),
         )
     next k ds m n (code.Ends e) few words h rest =
-        let total : suc k * most ≡ k * most + most = suc-mul k most in (
+        let each : ℕ = most image.parts.sizes in
+        let total : suc k * each ≡ k * each + each = suc-mul k each in (
           n,
           omega (arith, few),
           subst (λ (cs : List Deed).

@@ -10,7 +10,7 @@ use Rattle.std.proofs.lemmas.List.{length-replicate}
 use Rattle.cache_model.specs.Cache.{Words, put}
 use Rattle.cache_model.proofs.Versions.{put_same, put_other}
 use Rattle.pool_layout.specs.declared.limits.Sizes.{Sizes}
-use Rattle.pool_layout.specs.Sizes.{slot_word}
+use Rattle.pool_layout.specs.Sizes.{slot_words, slot_word}
 use Rattle.pool_map.specs.declared.object.Object.{Object}
 use Rattle.pool_map.specs.declared.shapes.StructShape.{StructShape}
 use Rattle.pool_map.specs.declared.shapes.Shapes.{Shapes}
@@ -25,6 +25,7 @@ use Rattle.pool_map.specs.Checks.{has_word}
 use Rattle.code_meaning.specs.Code.{Spot, InRoot, InSlot, load_spot, store_spot}
 use Rattle.pm_machine.specs.declared.effect.Effect.{Effect}
 use Rattle.pm_machine.specs.Effects.{heap_end}
+use Rattle.pool_layout.proofs.Slots.{slots_follow}
 use Rattle.machine_law.specs.pieces.Stands.{Stands, HasWord, heap_word, header_word, header_of}
 use Rattle.machine_law.specs.pieces.Fits.{IsFit}
 use Rattle.machine_law.specs.pieces.Shows.{IsThere}
@@ -36,24 +37,25 @@ object_fits shapes w zero fits = tt
 object_fits shapes w (suc i) fits = slot_all (ObjectFits shapes.structs) w.slots i fits.1
 
 -- an object's words fit in its slot
-few_words : (structs : List StructShape) (kind n : ℕ)
+few_words : (structs : List StructShape) (most kind n : ℕ)
     → ((k : ℕ) (shape : StructShape) → slice_get structs k ≡ Some shape
-    → words_of shape.fields ≤ 15)
-    → IsSomeAnd (struct_at structs kind) (λ shape. n ≡ words_of shape.fields) → n ≤ 15
-few_words structs zero n short h = absurd h
-few_words structs (suc k) n short h = by (slice_get structs k) refl h
+    → words_of shape.fields < most)
+    → IsSomeAnd (struct_at structs kind) (λ shape. n ≡ words_of shape.fields) → n < most
+few_words structs most zero n short h = absurd h
+few_words structs most (suc k) n short h = by (slice_get structs k) refl h
   where
     by : (o : Option StructShape) → slice_get structs k ≡ o
-        → IsSomeAnd o (λ shape. n ≡ words_of shape.fields) → n ≤ 15
+        → IsSomeAnd o (λ shape. n ≡ words_of shape.fields) → n < most
     by None e h = absurd h
-    by (Some shape) e h = let most = short k shape e in omega (arith, h)
+    by (Some shape) e h = let few = short k shape e in omega (arith, h)
 
 field_short : (s : Sizes) (shapes : Shapes) (o : Option Object) (i : ℕ) → IsFit s shapes
     → IfSome o (ObjectFits shapes.structs) → IsSomeAnd o (λ object. i < length object.fields)
-    → i < 15
+    → i + 1 < slot_words s
 field_short s shapes None i fit fits has = absurd has
 field_short s shapes (Some object) i fit fits has = let most =
-    few_words shapes.structs object.kind (length object.fields) fit.short fits in omega arith
+    few_words shapes.structs (slot_words s) object.kind (length object.fields) fit.short fits in
+    omega arith
 
 -- each word that a pool has is a word of the heap
 pub there_of : (s : Sizes) (shapes : Shapes) (heap : Words) (w : PoolMap) (x : Spot)
@@ -69,14 +71,16 @@ there_of s shapes heap w (InSlot q i) fit fits stands has =
 
 -- the heap word isn't one of slot q
 abbrev pub Outside : Sizes → ℕ → ℕ → Type 0
-Outside s q x = (x < slot_word s q) ⊎ (slot_word s q + 16 ≤ x)
+Outside s q x = (x < slot_word s q) ⊎ (slot_word s q + slot_words s ≤ x)
 
-other_slot : (s : Sizes) (q t i : ℕ) → 1 ≤ q → 1 ≤ t → t ≢ q → i < 16
+other_slot : (s : Sizes) (q t i : ℕ) → 1 ≤ q → 1 ≤ t → t ≢ q → i < slot_words s
     → Outside s q (slot_word s t + i)
 other_slot s q t i low low' ne few =
-    ⊎_elim (λ (lt : t < q). inl (omega arith)) (λ (ge : q ≤ t).
+    ⊎_elim (λ (lt : t < q).
+    inl (let before = slots_follow (slot_words s) t q low' lt in omega arith)) (λ (ge : q ≤ t).
     inr (let lt : q < t = ⊎_elim {C = q < t} (λ (e : t ≡ q). absurd (ne e)) (λ (n : t ≡ q → ⊥).
-    grind arith) (cases_eq t q) in omega arith)) (cases_lt t q)
+    grind arith) (cases_eq t q) in
+    let before = slots_follow (slot_words s) q t low lt in omega arith)) (cases_lt t q)
 
 module _ (s : Sizes) (shapes : Shapes) (heap : Words) (w : PoolMap) (fit : IsFit s shapes)
     (fits : PoolFits shapes w) (stands : Stands s heap w) where
@@ -178,7 +182,7 @@ module _ (s : Sizes) (b : Bool) (q : ℕ) where
 module _ (s : Sizes) (shapes : Shapes) (heap : Words) (w : PoolMap) (fit : IsFit s shapes)
     (fits : PoolFits shapes w) (stands : Stands s heap w) where
   -- the header and the zeros of a new object
-  pub stands_new : (b : Bool) (q kind c : ℕ) → IsSlot w q → c ≤ 15
+  pub stands_new : (b : Bool) (q kind c : ℕ) → IsSlot w q → c < slot_words s
       → Stands s (heap_end heap (store_effects true (header_word s q) (pos kind)
       ++ zero_effects s b q
       0 c)) (new w q kind c)

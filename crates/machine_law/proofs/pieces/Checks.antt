@@ -11,7 +11,7 @@ use Rattle.nvm_base.specs.Operations.{truth, unsigned}
 use Rattle.nvm_base.specs.Wrap.{IsWord}
 use Rattle.cache_model.specs.Cache.{Words}
 use Rattle.pool_layout.specs.declared.limits.Sizes.{Sizes}
-use Rattle.pool_layout.specs.Sizes.{slot_word}
+use Rattle.pool_layout.specs.Sizes.{slot_words, slot_word}
 use Rattle.pool_map.specs.declared.object.Object.{Object}
 use Rattle.pool_map.specs.declared.trap.TrapKind.{TrapKind}
 use Rattle.pool_map.specs.declared.trap.TrapKind.TheVariants as trap
@@ -37,7 +37,7 @@ use Rattle.pm_alloc.proofs.Runs.{run_on}
 use Rattle.machine_law.specs.pieces.Stands.{Stands, header_of}
 use Rattle.machine_law.specs.pieces.Shows.{ShowsDeeds, done, looks}
 use Rattle.machine_law.specs.pieces.Law.{onward}
-use Rattle.pm_alloc.proofs.New.{Here}
+use Rattle.pm_alloc.proofs.Fills.{Here}
 
 -- the object in slot q has the kind
 pub record IsObject (s : Sizes) (w : PoolMap) (kind q : ℕ) : Type 0 where
@@ -62,7 +62,7 @@ Points s logged piece own x v w kind n es (Ok q) = IsObject s w kind q
     ≡ Goes (record {
       at = 12;
       own = own;
-      temp = pos (q * 16) ∷ t1 ∷ t2 ∷ rest_of x;
+      temp = pos (q * slot_words s) ∷ t1 ∷ t2 ∷ rest_of x;
       world = onward v es v.ticks;
     })))
 

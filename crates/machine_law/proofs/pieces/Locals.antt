@@ -1,5 +1,5 @@
 -- The piece of each instruction except `new` does what the instruction does.
-use Rattle.std.proofs.Common.{◌≡◌, ⊎_elim, ℕ, zero, suc, ◌-◌, ◌^◌, ◌≤◌, Bool, false, List}
+use Rattle.std.proofs.Common.{◌≡◌, ⊎_elim, ℕ, zero, suc, ◌+◌, ◌-◌, ◌^◌, ◌≤◌, Bool, false, List}
 use Rattle.std.proofs.Common.{[], ◌∷◌, length, None, Some, ℤ, pos, negsuc, refl, sym, ap, ◌∙◌}
 use Rattle.std.proofs.Common.{subst, arith, ne_eqb}
 use Rattle.std.specs.Prelude.{◌==◌, if◌then◌else◌}
@@ -24,9 +24,8 @@ use Rattle.pool_map.specs.Trap.{trap_number}
 use Rattle.pool_map.specs.PoolFits.{PoolFits}
 use Rattle.pool_map.specs.PoolMap.{PoolMap}
 use Rattle.ir.specs.declared.site.Site.{Site}
-use Rattle.code_meaning.specs.Code.{Frame, Move, Ends, Trapped, Spot, register_at, put_register}
-use Rattle.code_meaning.specs.Code.{load_spot, store_spot, spot_of, slot_of, base_in, index_in}
-use Rattle.code_meaning.specs.Code.{with_ok, with_word, word_of, takes_tick, free_in}
+use Rattle.code_meaning.specs.Code.{Frame, Move, Ends, Trapped, register_at, put_register}
+use Rattle.code_meaning.specs.Code.{with_word, word_of, takes_tick}
 use Rattle.pool_map.specs.Checks.{is_zero}
 use Rattle.code_meaning.specs.Code as code
 use Rattle.code_meaning.specs.Deeds.{Deed}
@@ -40,6 +39,7 @@ use Rattle.pm_alloc.specs.Search.{temporaries}
 use Rattle.pm_alloc.specs.Free.{local_start}
 use Rattle.pm_alloc.proofs.Runs.{run_on}
 use Rattle.codegen.specs.Emit.{bin_code}
+use Rattle.machine_law.specs.emitted.Steps.{piece_steps}
 use Rattle.machine_law.specs.pieces.Stands.{Stands}
 use Rattle.machine_law.specs.pieces.Fits.{IsFit}
 use Rattle.machine_law.specs.pieces.Shows.{done}
@@ -68,7 +68,7 @@ module _ (s : Sizes) (logged : Site → Bool) (shapes : Shapes) (f p : ℕ) (reg
 
   abbrev pub Done : List Local → List Deed → Move → Type 0
   Done piece ds move =
-      (k : ℕ) × (k ≤ 40) × Does s logged (length piece) v ds move
+      (k : ℕ) × (k ≤ 1 + piece_steps s) × Does s logged (length piece) v ds move
       (local_run (local_step s piece) k first)
 
   abbrev on_to : List ℤ → PoolMap → Move

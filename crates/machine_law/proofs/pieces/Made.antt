@@ -1,14 +1,16 @@
 -- A new object: its piece does what the instruction does.
-use Rattle.std.proofs.Common.{◌≡◌, ℕ, zero, suc, ◌+◌, ◌*◌, ◌≤◌, Bool, true, false, List, [], ◌∷◌}
-use Rattle.std.proofs.Common.{◌++◌, length, Option, None, Some, ℤ, pos, refl, sym, ap, ◌∙◌, subst}
-use Rattle.std.proofs.Common.{arith, append_assoc, length-append, get_or, ltb, le-ltb, ⊎_elim}
-use Rattle.std.specs.Prelude.{◌+ℤ◌, if◌then◌else◌, option_and_then}
-use Rattle.std.specs.Int.{w64, int_wrap}
+use Rattle.std.proofs.Common.{◌≡◌, ℕ, zero, suc, ◌+◌, ◌<◌, ◌≤◌, Bool, List, [], ◌∷◌, ◌++◌, length}
+use Rattle.std.proofs.Common.{Option, None, Some, ℤ, pos, refl, sym, ap, ◌∙◌, subst, arith}
+use Rattle.std.proofs.Common.{append_assoc, leb, ⊎_elim}
+use Rattle.std.proofs.Common.{true, false}
+use Rattle.std.specs.Prelude.{if◌then◌else◌, option_and_then}
 use Rattle.std.specs.Option.{option_map_or}
+use Rattle.std.proofs.lemmas.Bool.{lt-leb}
+use Rattle.std.proofs.lemmas.Option.{slice_get_cases}
 use Rattle.cache_model.specs.Cache.{Words}
 use Rattle.cache_model.specs.Cache as cache
 use Rattle.pool_layout.specs.declared.limits.Sizes.{Sizes}
-use Rattle.std.proofs.lemmas.Option.{slice_get_cases}
+use Rattle.pool_layout.specs.Sizes.{slot_words, slot_word}
 use Rattle.pool_map.specs.declared.shapes.FieldShape.{FieldShape}
 use Rattle.pool_map.specs.declared.shapes.StructShape.{StructShape}
 use Rattle.pool_map.specs.declared.shapes.Shapes.{Shapes}
@@ -25,25 +27,23 @@ use Rattle.code_meaning.specs.Deeds.{Deed, Heads, zeros, deeds_new, site}
 use Rattle.pm_machine.specs.declared.effect.Effect.{Effect}
 use Rattle.pm_machine.specs.Effects.{heap_end}
 use Rattle.pm_machine.specs.Find.{least}
-use Rattle.pm_alloc.specs.declared.local.Reg.TheVariants.{Own, Temp}
 use Rattle.pm_alloc.specs.declared.local.Local.{Local}
-use Rattle.pm_alloc.specs.declared.local.Local.TheVariants.{Mov, Trap}
-use Rattle.pm_alloc.specs.Pieces.{offset, fill_code, new_head, new_code}
+use Rattle.pm_alloc.specs.declared.local.Local.TheVariants.{Trap}
+use Rattle.pm_alloc.specs.New.{wrote, world_after_new}
+use Rattle.pm_alloc.specs.Pieces.{new_code}
 use Rattle.pm_alloc.specs.Runs.{Goes, local_run}
-use Rattle.pm_alloc.specs.LocalRun.{World, Loc, local_step}
+use Rattle.pm_alloc.specs.LocalRun.{World, Loc, searched, local_step}
 use Rattle.pm_alloc.specs.Free.{local_start}
-use Rattle.pm_alloc.proofs.Search.{small, header_address}
+use Rattle.pm_alloc.proofs.New.{NewRun, new_runs}
 use Rattle.codegen.specs.Emit.{make_words, make_code}
-use Rattle.codegen.specs.Fields.{words_from}
+use Rattle.codegen.specs.Fields.{words_from, room}
 use Rattle.machine_law.specs.pieces.Stands.{Stands, header_word}
 use Rattle.machine_law.specs.pieces.Fits.{IsFit}
-use Rattle.machine_law.specs.pieces.Shows.{ShowsDeeds}
+use Rattle.machine_law.specs.pieces.Shows.{ShowsDeeds, done, heads}
 use Rattle.machine_law.specs.pieces.Law.{onward}
-use Rattle.machine_law.proofs.pieces.Shown.{heap_append, looks_heap}
-use Rattle.machine_law.proofs.pieces.Comes.{Comes, comes, comes_on, comes_quiet, done_by}
-use Rattle.pm_alloc.proofs.New.{Here, here_all, here_back}
-use Rattle.machine_law.proofs.pieces.Stores.{store_effects, zero_effects}
-use Rattle.machine_law.proofs.pieces.Stores.{fill_steps, fill_few, head_comes, fill_comes}
+use Rattle.machine_law.proofs.pieces.Shown.{heap_append, looks_heap, shown, onward_append}
+use Rattle.machine_law.proofs.pieces.Comes.{comes, done_by}
+use Rattle.machine_law.proofs.pieces.Stores.{store_effects, zero_effects, zeros_show, zeroed_is}
 use Rattle.machine_law.proofs.pieces.Changes.{stands_new}
 use Rattle.machine_law.proofs.pieces.Fields.{words_is}
 use Rattle.machine_law.proofs.pieces.Locals.{written_is, Done}
@@ -59,69 +59,47 @@ module _ (s : Sizes) (logged : Site → Bool) (shapes : Shapes) (f p : ℕ) (reg
   Does_all piece ds move = Done s logged shapes f p regs below x v w fit fits stands
       piece ds move
 
-  module _ (to kind c : ℕ) (b : Bool) (marked : logged (site f p true) ≡ b) (short : c ≤ 15) where
+  module _ (to kind c : ℕ) (b : Bool) (marked : logged (site f p true) ≡ b)
+      (short : c < slot_words s) where
     abbrev piece : List Local
     piece = new_code s to kind c b
-
-    abbrev fill : List Local
-    fill = fill_code s b 1 c
 
     abbrev es : List Effect
     es = looks_of s v.heap
 
-    abbrev loc : ℕ → Words → List ℤ → World → Loc
-    loc k own temp u = record { at = k; own = own; temp = temp; world = u }
-
-    -- after a search that finds q
-    abbrev found : ℕ → List ℤ
-    found q = pos q ∷ x 1 ∷ x 2 ∷ x 3 ∷ x 4 ∷ x 5 ∷ x 6 ∷ x 7 ∷ []
-
-    search : (q : ℕ) → least s v.heap ≡ q →
-        local_run (local_step s piece) 1 first
-        ≡ Goes (loc 1 (register_at regs) (found q) (onward v es v.ticks))
-    search q is = ap (λ (n : ℕ). Goes (loc 1 (register_at regs) (found n) (onward v es v.ticks))) is
-
     shows : ShowsDeeds s logged [] es
     shows = looks_show s v.heap logged
 
-    whole : 8 + length fill + 1 ≡ length piece
-    whole =
-        omega (
-          arith,
-          length-append (new_head s kind (length fill))
-              (fill ++ Mov (Own to) (Temp 0) ∷ []),
-          length-append fill (Mov (Own to) (Temp 0) ∷ []),
-        )
+    ran : NewRun s to kind c b (register_at regs) x v
+    ran = new_runs s to kind c b (register_at regs) x v fit.pool short
 
-    rest_here : Here piece 8 (fill ++ Mov (Own to) (Temp 0) ∷ [])
-    rest_here = here_all (fill ++ Mov (Own to) (Temp 0) ∷ []) (new_head s kind (length fill))
+    -- the end of the piece, with q as the result
+    abbrev last : ℕ → World → Loc
+    last q u = record {
+      at = length piece;
+      own = cache.put (register_at regs) to (pos q);
+      temp = ran.temp;
+      world = u;
+    }
 
-    mov : (temp : List ℤ) (u : World) →
-        local_run (local_step s piece) 1 (loc (8 + length fill) (register_at regs) temp u)
-        ≡ Goes (loc (8 + length fill + 1)
-        (cache.put (register_at regs) to (get_or temp 0 (pos 0))) temp u)
-    mov temp u = rw (here_back piece 8 fill (Mov (Own to) (Temp 0) ∷ []) rest_here).0 refl
+    run_is : (q : ℕ) → least s v.heap ≡ q → local_run (local_step s piece) ran.steps first
+        ≡ Goes (last q (world_after_new s kind c b (searched s v) q))
+    run_is q is =
+        ran.run ∙ ap (λ (n : ℕ). Goes (last n (world_after_new s kind c b (searched s v) n))) is
 
     -- no slot is free
     none_left : least s v.heap ≡ 0 →
         Does_all piece [] (code.Goes (code.Here f (suc p) (put_register regs to (pos 0)) below
         w v.ticks))
     none_left is = (
-      1 + 1 + 1,
-      omega arith,
-      done_by s logged piece (1 + 1 + 1) first v [] es
-          (loc (8 + length fill + 1) (cache.put (register_at regs) to (pos 0)) (found 0)) f (suc p)
+      ran.steps,
+      omega (arith, ran.few),
+      done_by s logged piece ran.steps first v [] es (last 0) f (suc p)
           (put_register regs to (pos 0)) below w v.ticks
-          (comes_quiet s logged piece (1 + 1) 1 first v [] es
-          (loc (8 + length fill) (register_at regs) (found 0))
-          (loc (8 + length fill + 1) (cache.put (register_at regs) to (pos 0)) (found 0))
-          (comes_quiet s logged piece 1 1 first v [] es (loc 1 (register_at regs) (found 0))
-          (loc (8 + length fill) (register_at regs) (found 0))
-          (comes shows (search 0 is)) (λ u. refl))
-          (mov (found 0)))
+          (comes shows (run_is 0 is))
           (record {
-            place = whole;
-            temp = refl;
+            place = refl;
+            temp = ran.eight;
             own = written_is regs to (pos 0);
             world = refl;
             stands = subst (λ (h : Words). Stands s h w)
@@ -134,17 +112,14 @@ module _ (s : Sizes) (logged : Site → Bool) (shapes : Shapes) (f p : ℕ) (reg
       abbrev q : ℕ
       q = suc r
 
-      abbrev temp1 : List ℤ
-      temp1 = pos q ∷ pos (16 * q) ∷ x 2 ∷ x 3 ∷ x 4 ∷ pos kind ∷ x 6 ∷ x 7 ∷ []
-
-      abbrev temp2 : List ℤ
-      temp2 = pos q ∷ pos (16 * q) ∷ x 2 ∷ x 3 ∷ x 4 ∷ pos kind ∷ pos 0 ∷ x 7 ∷ []
-
       abbrev head : List Effect
       head = store_effects true (header_word s q) (pos kind)
 
       abbrev zeros_in : List Effect
       zeros_in = zero_effects s b q 0 c
+
+      abbrev ds : List Deed
+      ds = Heads (site f p false) q (pos kind) ∷ zeros (site f p true) q 0 c
 
       low : 1 ≤ q
       low = omega arith
@@ -152,53 +127,20 @@ module _ (s : Sizes) (logged : Site → Bool) (shapes : Shapes) (f p : ℕ) (reg
       within : q ≤ s.slots
       within = omega (arith, stands.slots)
 
-      times : int_wrap w64 (pos (q * 16)) ≡ pos (16 * q)
-      times = small (q * 16) (omega (arith, within, fit.pool.few)) ∙ ap pos (omega arith)
+      all_shown : ShowsDeeds s logged ds ((es ++ head) ++ zeros_in)
+      all_shown =
+          shown s logged (Heads (site f p false) q (pos kind) ∷ []) (zeros (site f p true) q 0 c)
+          (es ++ head) zeros_in
+          (shown s logged [] (Heads (site f p false) q (pos kind) ∷ []) es head shows
+          (heads (site f p false) q (pos kind) (low, within) done))
+          (zeros_show s logged b q low within c 0 (site f p true) marked (omega arith))
 
-      address : int_wrap w64 (pos (16 * q) +ℤ offset s 0) ≡ pos (header_word s q)
-      address =
-          header_address s q (16 * q) refl low (omega (arith, within, fit.pool.few)) fit.pool.lines
-
-      scaled : (u : World) →
-          local_run (local_step s piece) 4 (loc 1 (register_at regs) (found q) u)
-          ≡ Goes (loc 5 (register_at regs) temp1 u)
-      scaled u =
-          ap (λ (z : ℤ). Goes (loc 5 (register_at regs) (pos q ∷ z ∷ x 2 ∷ x 3 ∷ x 4 ∷ pos kind
-          ∷ x 6 ∷ x 7 ∷ []) u)) times
-
-      to_head : Comes s logged v [] es (loc 5 (register_at regs) temp1)
-          (local_run (local_step s piece) (1 + 4) first)
-      to_head =
-          comes_quiet s logged piece 1 4 first v [] es (loc 1 (register_at regs) (found q))
-          (loc 5 (register_at regs) temp1) (comes shows (search q is)) scaled
-
-      headed : Comes s logged v (Heads (site f p false) q (pos kind) ∷ []) (es ++ head)
-          (loc 7 (register_at regs) temp1) (local_run (local_step s piece) (1 + 4 + 2) first)
-      headed =
-          comes_on s logged piece (1 + 4) 2 first v [] (Heads (site f p false) q (pos kind) ∷ []) es
-          head (loc 5 (register_at regs) temp1) (loc 7 (register_at regs) temp1) to_head
-          (head_comes s logged piece (register_at regs) temp1 5 q (onward v es v.ticks)
-          (Temp 1) (Temp 5) (offset s 0) (pos kind) (site f p false) (refl, (refl, tt)) address
-          (low, within) refl)
-
-      to_fill : Comes s logged v (Heads (site f p false) q (pos kind) ∷ []) (es ++ head)
-          (loc 8 (register_at regs) temp2) (local_run (local_step s piece) (1 + 4 + 2 + 1) first)
-      to_fill =
-          comes_quiet s logged piece (1 + 4 + 2) 1 first v (Heads (site f p false) q (pos kind)
-          ∷ []) (es ++ head) (loc 7 (register_at regs) temp1) (loc 8 (register_at regs) temp2)
-          headed (λ u. refl)
-
-      filled : Comes s logged v (Heads (site f p false) q (pos kind) ∷ zeros (site f p true) q 0 c)
-          ((es ++ head) ++ zeros_in) (loc (8 + length fill) (register_at regs) temp2)
-          (local_run (local_step s piece) (1 + 4 + 2 + 1 + fill_steps b c) first)
-      filled =
-          comes_on s logged piece (1 + 4 + 2 + 1) (fill_steps b c) first v
-          (Heads (site f p false) q (pos kind) ∷ []) (zeros (site f p true) q 0 c) (es ++ head)
-          zeros_in (loc 8 (register_at regs) temp2)
-          (loc (8 + length fill) (register_at regs) temp2) to_fill
-          (fill_comes s logged piece (register_at regs) temp2 fit.pool b (site f p true)
-          marked q low within refl refl c 0 8 (onward v (es ++ head) v.ticks)
-          (Mov (Own to) (Temp 0) ∷ []) rest_here (omega arith))
+      world_is : world_after_new s kind c b (searched s v) q
+          ≡ onward v ((es ++ head) ++ zeros_in) v.ticks
+      world_is =
+          let u : World = wrote true (searched s v) (slot_word s q) (pos kind) in
+          zeroed_is s logged b q low within c 0 (slot_word s q + 1) u (omega arith)
+          ∙ onward_append v (es ++ head) zeros_in v.ticks v.ticks
 
       heap_is : heap_end v.heap ((es ++ head) ++ zeros_in) ≡ heap_end v.heap (head ++ zeros_in)
       heap_is = ap (heap_end v.heap) (append_assoc es head zeros_in)
@@ -206,26 +148,18 @@ module _ (s : Sizes) (logged : Site → Bool) (shapes : Shapes) (f p : ℕ) (reg
           ∙ ap (λ (h : Words). heap_end h (head ++ zeros_in))
           (looks_heap s logged [] es v.heap shows refl)
 
-      one_made : Does_all piece (Heads (site f p false) q (pos kind) ∷ zeros (site f p true) q 0 c)
+      one_made : Does_all piece ds
           (code.Goes (code.Here f (suc p) (put_register regs to (pos q)) below
           (new w q kind c) v.ticks))
       one_made = (
-        1 + 4 + 2 + 1 + fill_steps b c + 1,
-        omega (arith, fill_few b c),
-        done_by s logged piece (1 + 4 + 2 + 1 + fill_steps b c + 1) first v
-            (Heads (site f p false) q (pos kind) ∷ zeros (site f p true) q 0 c)
-            ((es ++ head) ++ zeros_in) (loc (8 + length fill + 1)
-            (cache.put (register_at regs) to (pos q)) temp2) f (suc p)
-            (put_register regs to (pos q))
-            below (new w q kind c) v.ticks
-            (comes_quiet s logged piece (1 + 4 + 2 + 1 + fill_steps b c) 1 first v
-            (Heads (site f p false) q (pos kind) ∷ zeros (site f p true) q 0 c)
-            ((es ++ head) ++ zeros_in) (loc (8 + length fill) (register_at regs) temp2)
-            (loc (8 + length fill + 1) (cache.put (register_at regs) to (pos q)) temp2) filled
-            (mov temp2))
+        ran.steps,
+        omega (arith, ran.few),
+        done_by s logged piece ran.steps first v ds ((es ++ head) ++ zeros_in) (last q) f (suc p)
+            (put_register regs to (pos q)) below (new w q kind c) v.ticks
+            (comes all_shown (run_is q is ∙ ap (λ (u : World). Goes (last q u)) world_is))
             (record {
-              place = whole;
-              temp = refl;
+              place = refl;
+              temp = ran.eight;
               own = written_is regs to (pos q);
               world = refl;
               stands = subst (λ (h : Words). Stands s h (new w q kind c)) (sym heap_is)
@@ -255,7 +189,7 @@ module _ (s : Sizes) (logged : Site → Bool) (shapes : Shapes) (f p : ℕ) (reg
   new_does to zero b is marked = absurd (omega (arith, is.0))
   new_does to (suc k) b is marked = ⊎_elim
       (λ g. subst Made (sym g.2) (subst (λ (o : Option ℕ). Made_words o g.0)
-      (sym (words_is 15 0 g.0.fields (omega (arith, fit.short k g.0 g.2))))
+      (sym (words_is (room s) 0 g.0.fields (omega (arith, fit.short k g.0 g.2))))
       (with_words g.0 (fit.short k g.0 g.2))))
       (λ g. absurd (omega (arith, is.1, g.0)))
       (slice_get_cases shapes.structs k).1
@@ -272,17 +206,18 @@ module _ (s : Sizes) (logged : Site → Bool) (shapes : Shapes) (f p : ℕ) (reg
 
       Made : Option StructShape → Type 0
       Made o = Does_all (make_words s to (suc k) b
-          (option_and_then (λ (u : StructShape). words_from 15 0 u.fields) o))
+          (option_and_then (λ (u : StructShape). words_from (room s) 0 u.fields) o))
           (deeds_new f p (suc k) (words_of (fields_in o)) (least_free w))
           (code.Goes (code.Here f (suc p)
           (put_register regs to (new_at w (suc k) (words_of (fields_in o)) (least_free w)).0) below
           (new_at w (suc k) (words_of (fields_in o)) (least_free w)).1 v.ticks))
 
-      with_words : (u : StructShape) → words_of u.fields ≤ 15
+      with_words : (u : StructShape) → words_of u.fields < slot_words s
           → Made_words (Some (0 + words_of u.fields)) u
       with_words u short =
           let zero_on : 0 + words_of u.fields ≡ words_of u.fields = omega arith in
-          let test : ltb 15 (words_of u.fields) ≡ false = le-ltb 15 (words_of u.fields) short in
+          let test : leb (slot_words s) (words_of u.fields) ≡ false =
+          lt-leb (slot_words s) (words_of u.fields) short in
           subst (λ (n : ℕ). Made_words (Some n) u) (sym zero_on)
           (subst (λ (t : Bool). Does_all (if t then Trap 2 ∷ []
           else new_code s to (suc k) (words_of u.fields) b)

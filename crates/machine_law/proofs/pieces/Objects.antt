@@ -1,12 +1,13 @@
 -- A load, a store and a free: their pieces do what they do.
 use Rattle.std.proofs.Common.{◌≡◌, ℕ, suc, ◌+◌, ◌*◌, ◌<◌, ◌≤◌, Bool, true, false, List, [], ◌∷◌}
 use Rattle.std.proofs.Common.{◌++◌, length, Option, Some, Result, Ok, Err, ℤ, pos, refl, sym, ap}
-use Rattle.std.proofs.Common.{◌∙◌, subst, arith, length-append}
+use Rattle.std.proofs.Common.{◌∙◌, subst, arith, length-append, mul_comm}
 use Rattle.std.specs.Prelude.{◌+ℤ◌, slice_get}
 use Rattle.std.specs.Int.{w64, int_wrap}
 use Rattle.cache_model.specs.Cache.{Words}
 use Rattle.cache_model.specs.Cache as cache
 use Rattle.pool_layout.specs.declared.limits.Sizes.{Sizes}
+use Rattle.pool_layout.specs.Sizes.{slot_words}
 use Rattle.pool_map.specs.declared.shapes.Shapes.{Shapes}
 use Rattle.pool_map.specs.declared.trap.TrapKind.{TrapKind}
 use Rattle.pool_map.specs.PoolFits.{PoolFits}
@@ -34,6 +35,7 @@ use Rattle.pm_alloc.proofs.Runs.{run_on}
 use Rattle.pm_alloc.proofs.Search.{header_address}
 use Rattle.codegen.specs.Emit.{address_code, address_offset, load_at, load_code, store_at}
 use Rattle.codegen.specs.Emit.{assign_code}
+use Rattle.machine_law.specs.emitted.Steps.{piece_steps}
 use Rattle.machine_law.specs.pieces.Stands.{Stands, heap_word, header_word}
 use Rattle.machine_law.specs.pieces.Fits.{IsFit}
 use Rattle.machine_law.specs.pieces.Shows.{ShowsDeeds, done, reads, IsThere}
@@ -41,9 +43,8 @@ use Rattle.machine_law.specs.pieces.Law.{onward}
 use Rattle.machine_law.proofs.pieces.Shown.{heap_append, looks_heap}
 use Rattle.machine_law.proofs.pieces.Comes.{comes, comes_on, done_by, traps_by}
 use Rattle.machine_law.proofs.pieces.Addresses.{within}
-use Rattle.pm_alloc.proofs.New.{Here, here_all}
-use Rattle.machine_law.proofs.pieces.Stores.{store_effects, store_end, store_steps}
-use Rattle.machine_law.proofs.pieces.Stores.{store_comes, head_comes}
+use Rattle.pm_alloc.proofs.Fills.{Here, here_all, store_end, store_steps}
+use Rattle.machine_law.proofs.pieces.Stores.{store_effects, store_comes, head_comes}
 use Rattle.machine_law.proofs.pieces.Changes.{there_of, stored_heap, stands_store, stands_free}
 use Rattle.machine_law.proofs.pieces.Checks.{IsObject, rest_of, Pointed, pointer_runs}
 use Rattle.machine_law.proofs.pieces.Targets.{IsReached, Led, target_led}
@@ -221,7 +222,7 @@ module _ (s : Sizes) (logged : Site → Bool) (shapes : Shapes) (f p : ℕ) (reg
           value : ℤ
           value = register_at regs from
 
-          bound : (c : Bool) → led.0 + store_steps c ≤ 40
+          bound : (c : Bool) → led.0 + store_steps c ≤ 1 + piece_steps s
           bound false = omega (arith, led.1)
           bound true = omega (arith, led.1)
 
@@ -330,14 +331,14 @@ module _ (s : Sizes) (logged : Site → Bool) (shapes : Shapes) (f p : ℕ) (reg
         obj = c.2.1.1.0
 
         temp : List ℤ
-        temp = pos (n * 16) ∷ pos 0 ∷ c.2.1.1.1.1 ∷ rest_of x
+        temp = pos (n * slot_words s) ∷ pos 0 ∷ c.2.1.1.1.1 ∷ rest_of x
 
         loc : ℕ → World → Loc
         loc k u = record { at = k; own = register_at regs; temp = temp; world = u }
 
-        address : int_wrap w64 (pos (n * 16) +ℤ offset s 0) ≡ pos (header_word s n)
-        address = header_address s n (n * 16) (omega arith) obj.low
-            (omega (arith, obj.high, fit.pool.few)) fit.pool.lines
+        address : int_wrap w64 (pos (n * slot_words s) +ℤ offset s 0) ≡ pos (header_word s n)
+        address = header_address s n (n * slot_words s) fit.pool
+            (mul_comm n (slot_words s)) obj.low obj.high
 
         slot : (1 ≤ n) × (n ≤ length w.slots)
         slot = (obj.low, omega (arith, obj.high, stands.slots))

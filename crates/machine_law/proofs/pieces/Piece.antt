@@ -1,6 +1,6 @@
 -- The piece of each instruction that stays in its function does what the instruction does.
-use Rattle.std.proofs.Common.{◌≡◌, ℕ, ◌≤◌, Bool, List, [], ◌∷◌, length, Some, ℤ, pos, get_or, refl}
-use Rattle.std.proofs.Common.{subst, arith}
+use Rattle.std.proofs.Common.{ℕ, ◌+◌, ◌≤◌, Bool, List, length, Some, ℤ, pos, get_or, refl}
+use Rattle.std.proofs.Common.{subst}
 use Rattle.pool_layout.specs.declared.limits.Sizes.{Sizes}
 use Rattle.pool_map.specs.PoolFits.{PoolFits}
 use Rattle.pool_map.specs.PoolMap.{PoolMap}
@@ -13,9 +13,10 @@ use Rattle.code_meaning.specs.Code.{Frame, register_at, act}
 use Rattle.code_meaning.specs.Deeds.{deeds_at}
 use Rattle.pm_alloc.specs.LocalRun.{World, local_step}
 use Rattle.pm_alloc.specs.Runs.{local_run}
-use Rattle.pm_alloc.specs.Search.{temporaries}
+use Rattle.pm_alloc.proofs.Search.{eight_are}
 use Rattle.codegen.specs.Emit.{local_code}
 use Rattle.machine_law.specs.emitted.Standing.{Stays}
+use Rattle.machine_law.specs.emitted.Steps.{piece_steps}
 use Rattle.machine_law.specs.pieces.Stands.{Stands}
 use Rattle.machine_law.specs.pieces.Fits.{IsFit}
 use Rattle.machine_law.specs.pieces.Words.{HoldWords}
@@ -63,22 +64,10 @@ module _ (s : Sizes) (logged : Site → Bool) (program : Ir) (r n f p : ℕ) (re
   does (ir.Call to g args) is stays marked = absurd stays
   does (ir.Return from) is stays marked = absurd stays
 
-eight_are : (temp : List ℤ) → length temp ≡ 8 → temporaries (λ j. get_or temp j (pos 0)) ≡ temp
-eight_are (a ∷ b ∷ c ∷ d ∷ e ∷ f ∷ g ∷ h ∷ []) long = refl
-eight_are [] long = absurd (omega arith)
-eight_are (a ∷ []) long = absurd (omega arith)
-eight_are (a ∷ b ∷ []) long = absurd (omega arith)
-eight_are (a ∷ b ∷ c ∷ []) long = absurd (omega arith)
-eight_are (a ∷ b ∷ c ∷ d ∷ []) long = absurd (omega arith)
-eight_are (a ∷ b ∷ c ∷ d ∷ e ∷ []) long = absurd (omega arith)
-eight_are (a ∷ b ∷ c ∷ d ∷ e ∷ f ∷ []) long = absurd (omega arith)
-eight_are (a ∷ b ∷ c ∷ d ∷ e ∷ f ∷ g ∷ []) long = absurd (omega arith)
-eight_are (a ∷ b ∷ c ∷ d ∷ e ∷ f ∷ g ∷ h ∷ i ∷ rest) long = absurd (omega arith)
-
 pub piece_does : PieceLaw
 piece_does s program r n f p i b logged regs below w v temp fit fits stands words is stays marked
     long =
-    subst (λ (ts : List ℤ). (k : ℕ) × (k ≤ 40)
+    subst (λ (ts : List ℤ). (k : ℕ) × (k ≤ 1 + piece_steps s)
     × Does s logged (length (local_code s program.shapes b i)) v
     (deeds_at program.shapes f p regs w (Some i)) (act program (Some i) f p regs below w v.ticks)
     (local_run (local_step s (local_code s program.shapes b i)) k

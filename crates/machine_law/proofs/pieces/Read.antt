@@ -1,13 +1,13 @@
 -- The pool that a heap holds, read without asking how large its numbers are. Of a heap with valid
 -- headers it is the same.
-use Rattle.std.proofs.Common.{◌≡◌, ℕ, zero, suc, ◌+◌, ◌≤◌, ℤ, pos, negsuc, Bool, true, false}
+use Rattle.std.proofs.Common.{◌≡◌, ℕ, zero, suc, ◌+◌, ◌<◌, ◌≤◌, ℤ, pos, negsuc, Bool, true}
 use Rattle.std.proofs.Common.{List, [], ◌∷◌, length, Option, Some, None, refl, sym, ap, ap₂, ◌∙◌}
 use Rattle.std.proofs.Common.{arith}
 use Rattle.std.specs.Prelude.{slice_get, nat_lt, if◌then◌else◌, option_map}
-use Rattle.std.proofs.lemmas.Bool.{lt-ltb}
+use Rattle.std.proofs.lemmas.Bool.{lt-ltb, lt-leb}
 use Rattle.cache_model.specs.Cache.{Words}
 use Rattle.pool_layout.specs.declared.limits.Sizes.{Sizes}
-use Rattle.pool_layout.specs.Sizes.{slot_word}
+use Rattle.pool_layout.specs.Sizes.{slot_words, slot_word}
 use Rattle.pool_layout.specs.Headers.{HasHeaders}
 use Rattle.pool_map.specs.declared.object.Object.{Object}
 use Rattle.pool_map.specs.declared.shapes.StructShape.{StructShape}
@@ -41,37 +41,32 @@ read_pool shapes s heap = record {
   slots = read_slots s shapes.structs heap 1 s.slots;
 }
 
-small : (n : ℕ) → n ≤ 15 → nat_lt 15 n ≡ false
-small n le = by_test (nat_lt 15 n) refl
-  where
-    by_test : (b : Bool) → nat_lt 15 n ≡ b → b ≡ false
-    by_test false e = refl
-    by_test true e = absurd (omega (arith, Rattle.std.proofs.lemmas.Bool.ltb-true 15 n e, le))
-
-with_same : (h : Words) (w k : ℕ) (o : Option StructShape)
-    → ((shape : StructShape) → o ≡ Some shape → words_of shape.fields ≤ 15)
-    → shown.object_with h w k o ≡ option_map (read_object h w k) o
-with_same h w k None short = refl
-with_same h w k (Some shape) short =
+with_same : (s : Sizes) (h : Words) (w k : ℕ) (o : Option StructShape)
+    → ((shape : StructShape) → o ≡ Some shape → words_of shape.fields < slot_words s)
+    → shown.object_with s h w k o ≡ option_map (read_object h w k) o
+with_same s h w k None short = refl
+with_same s h w k (Some shape) short =
     ap (λ (b : Bool). if b then None
     else Some (record { kind = k; fields = words_from h (w + 1) (words_of shape.fields) }))
-    (small (words_of shape.fields) (short shape refl))
+    (lt-leb (slot_words s) (words_of shape.fields) (short shape refl))
 
-struct_short : (structs : List StructShape)
+struct_short : (most : ℕ) (structs : List StructShape)
     → ((k : ℕ) (shape : StructShape) → slice_get structs k ≡ Some shape
-    → words_of shape.fields ≤ 15)
-    → (k : ℕ) (shape : StructShape) → struct_at structs k ≡ Some shape → words_of shape.fields ≤ 15
-struct_short structs short zero shape e = absurd (cc)
-struct_short structs short (suc k) shape e = short k shape e
+    → words_of shape.fields < most)
+    → (k : ℕ) (shape : StructShape) → struct_at structs k ≡ Some shape
+    → words_of shape.fields < most
+struct_short most structs short zero shape e = absurd (cc)
+struct_short most structs short (suc k) shape e = short k shape e
 
 object_same : (s : Sizes) (shapes : Shapes) → IsFit s shapes
     → (h : Words) (w k : ℕ) → k ≤ length shapes.structs → h w ≡ pos k
-    → shown.object_in shapes.structs h w ≡ read_slot shapes.structs h w (h w)
+    → shown.object_in s shapes.structs h w ≡ read_slot shapes.structs h w (h w)
 object_same s shapes fit h w k le e =
     let few : nat_lt k 256 ≡ true = lt-ltb k 256 (omega (arith, le, fit.few)) in
-    ap (λ (v : ℤ). shown.object_of shapes.structs h w (shown.kind_in v)) e
-    ∙ ap (λ (b : Bool). shown.object_of shapes.structs h w (if b then Some k else None)) few
-    ∙ with_same h w k (struct_at shapes.structs k) (struct_short shapes.structs fit.short k)
+    ap (λ (v : ℤ). shown.object_of s shapes.structs h w (shown.kind_in v)) e
+    ∙ ap (λ (b : Bool). shown.object_of s shapes.structs h w (if b then Some k else None)) few
+    ∙ with_same s h w k (struct_at shapes.structs k)
+    (struct_short (slot_words s) shapes.structs fit.short k)
     ∙ ap (λ (v : ℤ). read_slot shapes.structs h w v) (sym e)
 
 slots_same : (s : Sizes) (shapes : Shapes) → IsFit s shapes

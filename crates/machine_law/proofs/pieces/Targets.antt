@@ -1,12 +1,12 @@
 -- The code of a target leads to the word that the target names, or traps as the code does.
 use Rattle.std.proofs.Common.{◌≡◌, ℕ, zero, suc, ◌+◌, ◌*◌, ◌<◌, ◌≤◌, Bool, List, [], ◌∷◌, ◌++◌}
 use Rattle.std.proofs.Common.{length, Option, None, Some, IfSome, Result, Ok, Err, ℤ, pos, refl}
-use Rattle.std.proofs.Common.{sym, ap, ◌∙◌, subst, arith}
+use Rattle.std.proofs.Common.{sym, ap, ◌∙◌, subst, arith, mul_comm}
 use Rattle.std.specs.Prelude.{◌+ℤ◌, slice_get, IsSomeAnd, option_map, option_and_then}
 use Rattle.std.specs.Int.{w64, int_wrap}
 use Rattle.std.specs.Option.{option_map_or}
 use Rattle.pool_layout.specs.declared.limits.Sizes.{Sizes}
-use Rattle.pool_layout.specs.Sizes.{slot_word}
+use Rattle.pool_layout.specs.Sizes.{slot_words, slot_word}
 use Rattle.pool_map.specs.declared.object.Object.{Object}
 use Rattle.pool_map.specs.declared.shapes.StructShape.{StructShape}
 use Rattle.pool_map.specs.declared.shapes.Shapes.{Shapes}
@@ -31,17 +31,19 @@ use Rattle.pm_alloc.specs.Runs.{Goes, Traps, local_run}
 use Rattle.pm_alloc.specs.LocalRun.{World, local_step}
 use Rattle.pm_alloc.specs.Free.{local_start}
 use Rattle.pm_alloc.proofs.Runs.{run_on}
+use Rattle.pm_alloc.proofs.Search.{address_is}
+use Rattle.pm_alloc.proofs.Slots.{slot_few}
 use Rattle.codegen.specs.declared.fields.Reach.{Reach}
-use Rattle.codegen.specs.Fields.{reach, field_at, root_reach}
+use Rattle.codegen.specs.Fields.{reach, field_at, root_reach, room}
 use Rattle.codegen.specs.Emit.{root_code, root_offset, object_code, object_offset, address_code}
 use Rattle.codegen.specs.Emit.{address_offset}
 use Rattle.machine_law.specs.pieces.Stands.{Stands, HasWord, heap_word}
 use Rattle.machine_law.specs.pieces.Fits.{IsFit}
 use Rattle.machine_law.specs.pieces.Shows.{ShowsDeeds, done}
 use Rattle.machine_law.specs.pieces.Law.{onward}
-use Rattle.pm_alloc.proofs.New.{Here}
+use Rattle.pm_alloc.proofs.Fills.{Here}
 use Rattle.machine_law.proofs.emitted.Placed.{sum_is}
-use Rattle.machine_law.proofs.pieces.Addresses.{element_address, root_address}
+use Rattle.machine_law.proofs.pieces.Addresses.{root_address}
 use Rattle.machine_law.proofs.pieces.Changes.{object_fits}
 use Rattle.machine_law.specs.pieces.Words.{HoldWords}
 use Rattle.machine_law.proofs.pieces.Checks.{IsObject, rest_of, Pointed, pointer_runs, Indexes}
@@ -84,7 +86,7 @@ struct_same shapes zero = refl
 struct_same shapes (suc k) = refl
 
 pub short_of : (s : Sizes) (shapes : Shapes) (kind : ℕ) (u : StructShape) → IsFit s shapes
-    → struct_of shapes kind ≡ Some u → words_of u.fields ≤ 15
+    → struct_of shapes kind ≡ Some u → words_of u.fields < slot_words s
 short_of s shapes zero u fit e = absurd (cc)
 short_of s shapes (suc k) u fit e = fit.short k u e
 
@@ -201,16 +203,16 @@ module _ (s : Sizes) (logged : Site → Bool) (shapes : Shapes) (regs : List ℤ
       subst (λ (o : Option Object). IsSomeAnd o (λ object. i < length object.fields)) (sym is.is)
       (omega arith)
 
-  address_in : (q first i : ℕ) → 1 ≤ q → q ≤ s.slots → first + i < 15
-      → int_wrap w64 (pos (q * 16 + i) +ℤ offset s (sum first 1))
+  address_in : (q first i : ℕ) → 1 ≤ q → q ≤ s.slots → first + i + 1 < slot_words s
+      → int_wrap w64 (pos (q * slot_words s + i) +ℤ offset s (sum first 1))
       ≡ pos (heap_word s (InSlot q (first + i)))
   address_in q first i low high few =
       let one : sum first 1 ≡ first + 1 = sum_is first 1 (omega arith) in
       let word : slot_word s q + (first + 1) + i ≡ heap_word s (InSlot q (first + i)) =
       omega arith in
-      ap (λ (m : ℕ). int_wrap w64 (pos (q * 16 + i) +ℤ offset s m)) one
-      ∙ element_address s q i (first + 1) low (omega (arith, fit.pool.few)) fit.pool.lines
-      (omega arith) ∙ ap pos word
+      ap (λ (m : ℕ). int_wrap w64 (pos (q * slot_words s + i) +ℤ offset s m)) one
+      ∙ address_is s q (q * slot_words s) i (first + 1) fit.pool (mul_comm q (slot_words s)) low
+      high (omega arith) ∙ ap pos word
 
   module _ (p kind f : ℕ) (u : StructShape) (some : 0 < kind)
       (there : struct_of shapes kind ≡ Some u) where
@@ -233,7 +235,7 @@ module _ (s : Sizes) (logged : Site → Bool) (shapes : Shapes) (regs : List ℤ
         by (Ok q) c =
             let obj = c.2.1.1.0 in
             let short = short_of s shapes kind u fit there in
-            let base : q * 16 + 0 ≡ q * 16 = omega arith in
+            let base : q * slot_words s + 0 ≡ q * slot_words s = omega arith in
             let zero_on : first + 0 ≡ first = omega arith in (
               c.0,
               omega (arith, c.1),
@@ -243,7 +245,7 @@ module _ (s : Sizes) (logged : Site → Bool) (shapes : Shapes) (regs : List ℤ
                   c.2.1.0,
                   record {
                     has = object_has kind q first u there obj few;
-                    a = pos (q * 16);
+                    a = pos (q * slot_words s);
                     t1 = c.2.1.1.1.0;
                     t2 = c.2.1.1.1.1;
                     path = c.2.1.1.1.2;
@@ -282,11 +284,11 @@ module _ (s : Sizes) (logged : Site → Bool) (shapes : Shapes) (regs : List ℤ
             ≡ Goes (record {
               at = 12;
               own = own;
-              temp = pos (q * 16) ∷ t1 ∷ t2 ∷ rest_of x;
+              temp = pos (q * slot_words s) ∷ t1 ∷ t2 ∷ rest_of x;
               world = onward v es v.ticks;
             }) →
             (r : Result ℕ TrapKind) → (m : ℕ) × (m ≤ 5) × Indexes s piece 12 i len here own
-            (onward v es v.ticks) (q * 16) m t1 t2 (rest_of x) r
+            (onward v es v.ticks) (q * slot_words s) m t1 t2 (rest_of x) r
             → Led s logged w piece own x v 18 (Some (offset s (sum first 1)))
             (then_on (then_on r (λ j. Ok (first + j))) (λ j. Ok (InSlot q j)))
         indexed q n es t1 t2 small shows obj path (Err e) c = (
@@ -308,7 +310,7 @@ module _ (s : Sizes) (logged : Site → Bool) (shapes : Shapes) (regs : List ℤ
                   shows,
                   record {
                     has = object_has kind q (first + j) u there obj (omega arith);
-                    a = pos (q * 16 + j);
+                    a = pos (q * slot_words s + j);
                     t1 = c.2.1.0;
                     t2 = c.2.1.1;
                     path = run_on (local_step s piece) n c.0 (local_start own x v) _ _ path c.2.1.2;
@@ -330,8 +332,9 @@ module _ (s : Sizes) (logged : Site → Bool) (shapes : Shapes) (regs : List ℤ
             let short = short_of s shapes kind u fit there in
             indexed q c.0 c.2.0 c.2.1.1.1.0 c.2.1.1.1.1 c.1 c.2.1.0 obj c.2.1.1.1.2
             (element_in len (register_at regs i))
-            (index_runs s piece 12 i len here own (onward v c.2.0 v.ticks) (q * 16) c.2.1.1.1.0
-            c.2.1.1.1.1 (register_at regs i) (rest_of x) (omega (arith, obj.high, fit.pool.few))
+            (index_runs s piece 12 i len here own (onward v c.2.0 v.ticks) (q * slot_words s)
+            c.2.1.1.1.0 c.2.1.1.1.1 (register_at regs i) (rest_of x)
+            (omega (arith, mul_comm q (slot_words s), slot_few s q obj.high))
             refl (words i))
 
     field_led : (index : Option ℕ) (o : Option Reach) (rest : List Local)
@@ -370,7 +373,8 @@ module _ (s : Sizes) (logged : Site → Bool) (shapes : Shapes) (regs : List ℤ
       (sym (struct_same shapes kind)) (by (struct_of shapes kind) refl is.1)
     where
       reached_at : Option StructShape → Option Reach
-      reached_at o = reach (option_and_then (λ (u : StructShape). field_at 15 0 u.fields f) o) index
+      reached_at o =
+          reach (option_and_then (λ (u : StructShape). field_at (room s) 0 u.fields f) o) index
 
       FieldLed : Option Reach → Option StructShape → Type 0
       FieldLed a o = Led s logged w (object_code s p kind a ++ rest) (register_at regs) x v
@@ -384,5 +388,5 @@ module _ (s : Sizes) (logged : Site → Bool) (shapes : Shapes) (regs : List ℤ
           → FieldLed (reached_at o) o
       by None e is = absurd is
       by (Some u) e is = field_led p kind f u (some_of shapes kind u e) e index
-          (reached_at (Some u)) rest (reaches r 15 u.fields f index
-          (short_of s shapes kind u fit e) is)
+          (reached_at (Some u)) rest (reaches r (room s) u.fields f index
+          (omega (arith, short_of s shapes kind u fit e)) is)

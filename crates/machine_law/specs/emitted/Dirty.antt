@@ -19,7 +19,8 @@ StaysCleanLaw = (image : Image) (k : ℕ) (m b : RunMoment) → IsCleanState ima
 
 abbrev pub FewLines : Type 0
 FewLines = (image : Image) (s : State) → IsCleanState image s
-    → length s.dirty ≤ root_lines image.parts.sizes + 2 * image.parts.sizes.slots
+    → length s.dirty
+    ≤ root_lines image.parts.sizes + image.parts.sizes.slot_lines * image.parts.sizes.slots
 
 -- each step makes at most one more line dirty
 abbrev pub GrowLaw : Type 0

@@ -26,7 +26,7 @@ use Rattle.machine_law.specs.emitted.Moments.{RunMoment, RunStage, On, Over, go}
 abbrev pub heard : List Effect → List Effect
 heard [] = []
 heard (Loads w ∷ es) = Loads w ∷ heard es
-heard (Scans w many ∷ es) = Scans w many ∷ heard es
+heard (Scans w apart many ∷ es) = Scans w apart many ∷ heard es
 heard (Stores w x ∷ es) = Stores w x ∷ heard es
 heard (Logs w ∷ es) = Logs w ∷ heard es
 heard (Flushes l ∷ es) = Flushes l ∷ heard es

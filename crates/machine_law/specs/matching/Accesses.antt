@@ -8,7 +8,7 @@ use Rattle.pm_machine.specs.declared.effect.Effect.TheVariants.{Fences, Quiet}
 abbrev pub accesses : List Effect → List Effect
 accesses [] = []
 accesses (Loads w ∷ es) = Loads w ∷ accesses es
-accesses (Scans w many ∷ es) = Scans w many ∷ accesses es
+accesses (Scans w apart many ∷ es) = Scans w apart many ∷ accesses es
 accesses (Stores w x ∷ es) = Stores w x ∷ accesses es
 accesses (Logs w ∷ es) = Logs w ∷ accesses es
 accesses (Flushes l ∷ es) = accesses es

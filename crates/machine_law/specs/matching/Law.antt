@@ -47,9 +47,9 @@ RunMatches image ir heap ds code.Unfinished run = Unit {0}
 RunMatches image ir heap ds code.Stuck run = ⊥
 
 -- If k steps of the code of a transaction lead to an end, at most 80 steps of the machine for each
--- of them lead to an end too, from every heap that stands for the pool. It is the same end, with a
--- heap that stands for the code's pool, and with loads, stores and logs that show the code's. The
--- arguments and the pool's words are words.
+-- of them, or more where slots are wider, lead to an end too, from every heap that stands for the
+-- pool. It is the same end, with a heap that stands for the code's pool, and with loads, stores and
+-- logs that show the code's. The arguments and the pool's words are words.
 abbrev pub KeepLaw : Type 0
 KeepLaw = (image : Image) (ir : Ir) (k tx : ℕ) (entry : TxEntry) (args : List ℤ) (heap : Words)
     (w : PoolMap) →
@@ -57,4 +57,4 @@ KeepLaw = (image : Image) (ir : Ir) (k tx : ℕ) (entry : TxEntry) (args : List 
     → HasWords w → Stands image.parts.sizes heap w → PoolFits ir.shapes w →
     RunMatches image ir heap (deeds ir k (code_start entry.function args w image.parts.sizes.ticks))
     (exec ir k (code_start entry.function args w image.parts.sizes.ticks))
-    (mrun image (k * most) heap tx args)
+    (mrun image (k * most image.parts.sizes) heap tx args)

@@ -22,6 +22,7 @@ use Rattle.ir.specs.Moving.{place_in}
 use Rattle.machine_law.specs.emitted.Dirty.{IsCleanState}
 use Rattle.machine_law.specs.emitted.Moments.{RunMoment, RunStage, On, Over, go, onto}
 use Rattle.machine_law.specs.emitted.Standing.{table_of}
+use Rattle.machine_law.specs.emitted.Steps.{piece_steps}
 use Rattle.machine_law.specs.pieces.Shows.{ShowsDeeds}
 use Rattle.machine_law.specs.pieces.Stands.{Stands}
 use Rattle.machine_law.specs.pieces.Words.{IsWordState}
@@ -103,8 +104,8 @@ MovesToo image ir ds (code.Goes c) m g = GoesToo image ir ds c m g
 MovesToo image ir ds (code.Ends e) m g = EndsToo image ir ds e m g
 
 -- the steps of an instruction itself, and those that flush each dirty line if it ends the run
-abbrev pub own_steps : ℕ
-own_steps = 40
+abbrev pub own_steps : Sizes → ℕ
+own_steps s = 1 + piece_steps s
 
 abbrev pub flushes : Move → RunMoment → ℕ
 flushes (code.Goes c) m = 0
@@ -115,10 +116,11 @@ flushes (code.Ends e) m = length m.state.dirty
 abbrev pub MatchLaw : Type 0
 MatchLaw = (image : Image) (ir : Ir) (c : CodeState) (m : RunMoment) → IsCodeOf image ir
     → IsWordState c → Match image ir c m →
-    (n : ℕ) × (n ≤ own_steps + flushes (instruction_step ir c) m)
+    (n : ℕ) × (n ≤ own_steps image.parts.sizes + flushes (instruction_step ir c) m)
     × MovesToo image ir (deeds_of ir c) (instruction_step ir c) m (go image n m)
 
 -- The machine's steps for an instruction in total: each of its own steps makes at most one line
--- dirty, which takes one more step to flush at the end.
-abbrev pub most : ℕ
-most = 2 * own_steps
+-- dirty, which takes one more step to flush at the end. They are 80, and 20 more for each word of a
+-- slot that is beyond 16.
+abbrev pub most : Sizes → ℕ
+most s = 2 * own_steps s

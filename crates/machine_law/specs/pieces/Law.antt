@@ -3,7 +3,7 @@
 -- ticks and a heap that stands for the instruction's pool, or traps as the instruction does; its
 -- effects show what the instruction does. The registers hold words: a divisor that is no word could
 -- be 0 for the machine but not for the code.
-use Rattle.std.specs.Prelude.{ℕ, ◌≤◌, ◌≡◌, Bool, true, false, List, length, Some, ℤ}
+use Rattle.std.specs.Prelude.{ℕ, ◌+◌, ◌≤◌, ◌≡◌, Bool, true, false, List, length, Some, ℤ}
 use Rattle.pool_map.specs.declared.trap.TrapKind.{TrapKind}
 use Rattle.pool_map.specs.Trap.{trap_number}
 use Rattle.pool_map.specs.PoolMap.{PoolMap}
@@ -23,6 +23,7 @@ use Rattle.pm_alloc.specs.LocalRun.{World, Loc, local_step}
 use Rattle.codegen.specs.Emit.{local_code}
 use Rattle.machine_law.specs.emitted.Moments.{onto}
 use Rattle.machine_law.specs.emitted.Standing.{Stays}
+use Rattle.machine_law.specs.emitted.Steps.{piece_steps}
 use Rattle.machine_law.specs.pieces.Stands.{Stands}
 use Rattle.machine_law.specs.pieces.Fits.{IsFit}
 use Rattle.machine_law.specs.pieces.Shows.{ShowsDeeds}
@@ -80,7 +81,7 @@ PieceLaw = (s : Sizes) (ir : Ir) (r n f p : ℕ) (i : Instruction) (b : Bool) (l
     IsFit s ir.shapes → PoolFits ir.shapes w → Stands s v.heap w → HoldWords regs
     → IsInstruction ir r n i → Stays i → AgreesOnSites logged f p b i
     → length temp ≡ 8 →
-    (k : ℕ) × (k ≤ 40)
+    (k : ℕ) × (k ≤ 1 + piece_steps s)
     × Does s logged (length (local_code s ir.shapes b i)) v (deeds_at ir.shapes f p regs w (Some i))
     (act ir (Some i) f p regs below w v.ticks)
     (alone.local_run (local_step s (local_code s ir.shapes b i)) k

@@ -5,6 +5,7 @@ use Rattle.std.specs.Prelude.{ℕ, ◌≤◌, ◌≡◌, Bool, true, false, List
 use Rattle.pool_layout.specs.declared.limits.Sizes.{Sizes}
 use Rattle.pool_layout.specs.declared.places.HeapPlace.TheVariants.{Header}
 use Rattle.pool_layout.specs.Places.{IsHeapPlace}
+use Rattle.pool_layout.specs.Sizes.{slot_words}
 use Rattle.ir.specs.declared.site.Site.{Site}
 use Rattle.code_meaning.specs.Code.{Spot}
 use Rattle.code_meaning.specs.Deeds.{Deed, Reads, Writes, Heads}
@@ -21,7 +22,7 @@ pub data ShowsDeeds (s : Sizes) (logged : Site → Bool) : List Deed → List Ef
   looks : {ds : List Deed} {es : List Effect} (q : ℕ) → IsHeapPlace s (Header q)
       → ShowsDeeds s logged ds es → ShowsDeeds s logged ds (Loads (header_word s q) ∷ es)
   scans : {ds : List Deed} {es : List Effect} (n : ℕ) → n ≤ s.slots → ShowsDeeds s logged ds es →
-      ShowsDeeds s logged ds (Scans (header_word s 1) n ∷ es)
+      ShowsDeeds s logged ds (Scans (header_word s 1) (slot_words s) n ∷ es)
   reads : {ds : List Deed} {es : List Effect} (x : Spot) → IsThere s x → ShowsDeeds s logged ds es
       → ShowsDeeds s logged (Reads x ∷ ds) (Loads (heap_word s x) ∷ es)
   plain : {ds : List Deed} {es : List Effect} (site : Site) (x : Spot) (v : ℤ) → IsThere s x

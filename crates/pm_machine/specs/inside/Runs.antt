@@ -19,12 +19,11 @@ use Rattle.pm_machine.specs.Logging.{Logging, bare}
 use Rattle.pm_machine.specs.Looking.{look_of}
 use Rattle.pm_machine.specs.Machine.{State, StepOutcome, Goes, Ends, step}
 use Rattle.pm_machine.specs.Runs.{heap_in, effect_in, AreLines, Due, due}
-use Rattle.cache_model.specs.declared.slot.TheConstants.{SLOT_WORDS}
 
 abbrev pub IsStore : Effect → Type 0
 IsStore (Stores w x) = Unit {0}
 IsStore (Loads w) = ⊥
-IsStore (Scans w m) = ⊥
+IsStore (Scans w apart m) = ⊥
 IsStore (Logs w) = ⊥
 IsStore (Flushes l) = ⊥
 IsStore Fences = ⊥
@@ -33,7 +32,7 @@ IsStore Quiet = ⊥
 -- the words, headers and lines of an effect exist: H heap words
 abbrev pub IsInRange : (H : ℕ) → Effect → Type 0
 IsInRange H (Loads w) = w < H
-IsInRange H (Scans w m) = w + SLOT_WORDS * m ≤ H
+IsInRange H (Scans w apart m) = w + apart * m ≤ H
 IsInRange H (Stores w x) = w < H
 IsInRange H (Logs w) = w < H
 IsInRange H (Flushes l) = 8 * l < H
@@ -43,7 +42,7 @@ IsInRange H Quiet = Unit {0}
 -- a record has room among C, n of which are written
 abbrev pub HasRoomFor : (C n : ℕ) → Effect → Type 0
 HasRoomFor C n (Loads w) = Unit {0}
-HasRoomFor C n (Scans w m) = Unit {0}
+HasRoomFor C n (Scans w apart m) = Unit {0}
 HasRoomFor C n (Stores w x) = Unit {0}
 HasRoomFor C n (Logs w) = n < C
 HasRoomFor C n (Flushes l) = Unit {0}
@@ -59,7 +58,7 @@ taken_events z a g heap (Some w) = record_events z g.count w (heap w) (a + 1)
 abbrev pub GoesSilently : State → StepOutcome → Type 0
 GoesSilently t (Goes Quiet s) = t ≡ s
 GoesSilently t (Goes (Loads w) s) = t ≡ s
-GoesSilently t (Goes (Scans w m) s) = ⊥
+GoesSilently t (Goes (Scans w apart m) s) = ⊥
 GoesSilently t (Goes (Stores w x) s) = ⊥
 GoesSilently t (Goes (Logs w) s) = ⊥
 GoesSilently t (Goes (Flushes l) s) = ⊥
