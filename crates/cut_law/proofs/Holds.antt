@@ -28,9 +28,8 @@ use Rattle.pm_machine.specs.Effects.{records_end}
 use Rattle.crash_law.specs.Due.{Entry, Plain, Logged, IsTrace, Records, with_record}
 use Rattle.crash_law.specs.Due.{records_after, run_events, undo_events}
 use Rattle.crash_law.specs.Effects.{IsPaired, trace_of}
-use Rattle.crash_law.specs.Effects as past
-use Rattle.run_law.specs.Seen.{headers_before, seen_all}
-use Rattle.run_law.proofs.Headers.{trace_headers}
+use Rattle.run_law.specs.Seen.{seen_all}
+use Rattle.run_law.proofs.Headers.{trace_headers, headers_pair}
 use Rattle.tx_run.specs.Due.{retiring_still, due_undo}
 use Rattle.cut_law.proofs.Misses.{view_missed}
 use Rattle.cut_law.proofs.Numbers.{next_is, attempt_small}
@@ -219,12 +218,6 @@ module _ (z : Sizes) (a : ℕ) where
         h.words h.olds))
 
 -- The records after a run's trace are those that its effects append, if each LOG has its STORE.
-paired_headers : (last : Option ℕ) (w m : ℕ) (es : List past.Effect) →
-    IsPaired last (headers_before w m es) → IsPaired last es
-paired_headers last w zero es p = p
-paired_headers None w (suc m) es p = paired_headers None (w + 16) m es p
-paired_headers (Some v) w (suc m) es p = paired_headers (Some v) (w + 16) m es p
-
 -- the records, with that of a LOG whose STORE is yet to come
 abbrev with_pending : Option ℕ → ℕ → ℕ
 with_pending None n = n
@@ -237,10 +230,10 @@ counts_trace [] None r heap p = refl
 counts_trace [] (Some v) r heap p = absurd p
 counts_trace (Loads w ∷ es) None r heap p = counts_trace es None r heap p
 counts_trace (Loads w ∷ es) (Some v) r heap p = counts_trace es (Some v) r heap p
-counts_trace (Scans w m ∷ es) last r heap p =
+counts_trace (Scans w apart m ∷ es) last r heap p =
     ap (λ (trace : List Entry). (records_after r heap trace).n)
-    (trace_headers last w m (seen_all es))
-    ∙ counts_trace es last r heap (paired_headers last w m (seen_all es) p)
+    (trace_headers last w apart m (seen_all es))
+    ∙ counts_trace es last r heap (headers_pair last w apart m (seen_all es) p)
 counts_trace (Stores w x ∷ es) None r heap p = counts_trace es None r (put heap w x) p
 counts_trace (Stores w x ∷ es) (Some v) r heap p =
     ap (λ (b : Bool).

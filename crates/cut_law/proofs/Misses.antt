@@ -81,7 +81,7 @@ misses_seal f args k p few out =
 misses_effect : (z : Sizes) (a n p : ℕ) (h : Words) (e : Effect) → p < 48
     → Misses p (events_of z a n h e)
 misses_effect z a n p h (Loads w) less = tt
-misses_effect z a n p h (Scans w many) less = tt
+misses_effect z a n p h (Scans w apart many) less = tt
 misses_effect z a n p h (Stores w x) less = ((λ e. absurd (omega arith)), tt)
 misses_effect z a n p h (Logs w) less =
     ((λ e. absurd (omega arith)), ((λ e. absurd (omega arith)), ((λ e. absurd (omega arith)), tt)))

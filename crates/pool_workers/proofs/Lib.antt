@@ -1,3 +1,4 @@
+pub mod Rooms
 pub mod Windows
 pub mod Opened
 pub mod Turns

@@ -1,6 +1,7 @@
 -- An answered event of the whole device, as the window sees it, and its effect outside.
-use Rattle.std.proofs.Common.{◌≡◌, ◌⊎◌, inl, inr, ℕ, ◌+◌, ◌*◌, ◌<◌, Bool, true, Option, Some}
+use Rattle.std.proofs.Common.{◌≡◌, ◌⊎◌, inl, inr, ℕ, suc, ◌+◌, ◌*◌, ◌<◌, Bool, true, Option, Some}
 use Rattle.std.proofs.Common.{None, IfSome, ℤ, sym, ap, ◌∙◌, subst, ◌≤◌, arith}
+use Rattle.std.proofs.Math.Nat.{mul-le-mul_left, mul-suc}
 use Rattle.cache_model.specs.Event.{CacheEvent, Store, Flush, Fence}
 use Rattle.cache_model.specs.Cache.{Cache, view}
 use Rattle.cache_model.specs.Play.{apply}
@@ -85,15 +86,16 @@ module _ (f n at : ℕ) (is : at ≡ f) where
   load_in w None c lt h = h
   load_in w (Some x) c lt h = h ∙ ap (λ (k : ℕ). view c (8 * k + w)) is ∙ sym (view_in f n w c lt)
 
-  pub first_zero_in : (w m : ℕ) (v : Option ℕ) (c : Cache) → w + 16 * m ≤ 8 * n →
-      IfSome v (IsFirstZero (view c) (8 * at + w) m) →
-      IfSome v (IsFirstZero (view (cache_in f n c)) w m)
-  first_zero_in w m None c le h = h
-  first_zero_in w m (Some k) c le h =
+  pub first_zero_in : (w d m : ℕ) (v : Option ℕ) (c : Cache) → 1 ≤ d → w + d * m ≤ 8 * n →
+      IfSome v (IsFirstZero (view c) (8 * at + w) d m) →
+      IfSome v (IsFirstZero (view (cache_in f n c)) w d m)
+  first_zero_in w d m None c some le h = h
+  first_zero_in w d m (Some k) c some le h =
       let here : (i : ℕ) → i < m →
-      view c (8 * at + w + 16 * i) ≡ view (cache_in f n c) (w + 16 * i) = λ i lt.
-      let place : 8 * at + w + 16 * i ≡ 8 * f + (w + 16 * i) = omega (arith, is) in
-      ap (view c) place ∙ sym (view_in f n (w + 16 * i) c (omega arith)) in
+      view c (8 * at + w + d * i) ≡ view (cache_in f n c) (w + d * i) = λ i lt.
+      let place : 8 * at + w + d * i ≡ 8 * f + (w + d * i) = omega (arith, is) in
+      let within : d * suc i ≤ d * m = mul-le-mul_left d lt in
+      ap (view c) place ∙ sym (view_in f n (w + d * i) c (omega (arith, within, mul-suc d i))) in
       record {
         few = h.few;
         before = λ i lt e. h.before i lt (here i (omega (arith, h.few)) ∙ e);

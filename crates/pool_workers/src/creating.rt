@@ -21,7 +21,7 @@ use std::alloc::{AllocError, Global};
 
 /// Stores in the compartment that begins at line `first`.
 fn put<P: PmemWork>(dev: &mut P, first: u64, word: u64, value: i64) -> Result<(), Refusal>
-    requires small { first ≤ 2 ^ 22 }
+    requires small { first ≤ 2 ^ 30 }
     requires lines { first + 6 ≤ (P.device dev.old).lines }
     requires word { word < 48 }
     ensures done { OnOk result
@@ -36,7 +36,7 @@ fn put<P: PmemWork>(dev: &mut P, first: u64, word: u64, value: i64) -> Result<()
 
 /// Flushes in the compartment that begins at line `first`.
 fn flush_in<P: PmemWork>(dev: &mut P, first: u64, line: u64) -> Result<(), Refusal>
-    requires small { first ≤ 2 ^ 22 }
+    requires small { first ≤ 2 ^ 30 }
     requires lines { first + 6 ≤ (P.device dev.old).lines }
     requires line { line < 6 }
     ensures done { OnOk result
@@ -51,7 +51,7 @@ fn flush_in<P: PmemWork>(dev: &mut P, first: u64, line: u64) -> Result<(), Refus
 /// The words of the first line.
 #[tactic(auto, unfolding(args_log::specs::Created::sizes_events))]
 fn store_sizes<P: PmemWork>(sizes: &Sizes, first: u64, dev: &mut P) -> Result<(), Refusal>
-    requires small { first ≤ 2 ^ 22 }
+    requires small { first ≤ 2 ^ 30 }
     requires lines { first + 6 ≤ (P.device dev.old).lines }
     ensures done { OnOk result
         (PlaysAll (P.device dev.old) (lifted_all first (sizes_events sizes.now))
@@ -72,7 +72,7 @@ fn store_sizes<P: PmemWork>(sizes: &Sizes, first: u64, dev: &mut P) -> Result<()
 /// The words of the second line.
 #[tactic(auto, unfolding(args_log::specs::Created::digest_events))]
 fn store_digest<P: PmemWork>(digest: &[i64; 4], first: u64, dev: &mut P) -> Result<(), Refusal>
-    requires small { first ≤ 2 ^ 22 }
+    requires small { first ≤ 2 ^ 30 }
     requires lines { first + 6 ≤ (P.device dev.old).lines }
     ensures done { OnOk result
         (PlaysAll (P.device dev.old) (lifted_all first (digest_events digest.now))
@@ -90,7 +90,7 @@ fn store_digest<P: PmemWork>(digest: &[i64; 4], first: u64, dev: &mut P) -> Resu
 
 /// Makes the first two lines durable.
 fn settle<P: PmemWork>(first: u64, dev: &mut P) -> Result<(), Refusal>
-    requires small { first ≤ 2 ^ 22 }
+    requires small { first ≤ 2 ^ 30 }
     requires lines { first + 6 ≤ (P.device dev.old).lines }
     ensures done { OnOk result
         (PlaysAll (P.device dev.old) (lifted_all first head_events) (P.device dev.new)) }
@@ -111,7 +111,7 @@ fn create_at<P: PmemWork>(
     first: u64,
     dev: &mut P,
 ) -> Result<(), Refusal>
-    requires small { first ≤ 2 ^ 22 }
+    requires small { first ≤ 2 ^ 30 }
     requires lines { first + 6 ≤ (P.device dev.old).lines }
     ensures done { OnOk result
         (PlaysAll (P.device dev.old) (parts_at first sizes.now digest.now) (P.device dev.new)) }

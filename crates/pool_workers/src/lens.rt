@@ -58,7 +58,7 @@ pub(crate) struct Lens<'a, P: PmemWork, O: Loan> {
     ghost named: { dev.ghost_name ≡ O.name },
     ghost first_is: { first ≡ O.first },
     ghost count_is: { count ≡ O.lines },
-    ghost small: { O.first + O.lines ≤ 2 ^ 22 },
+    ghost small: { O.first + O.lines ≤ 2 ^ 30 },
     ghost inside: { O.first + O.lines ≤ (P.device dev.now).lines },
     ghost whole: { (P.device dev.now).lines ≡ O.whole.lines },
     ghost aside: { AreAside O.first O.lines fenced O.whole.cache
@@ -77,8 +77,8 @@ impl<P: PmemWork, O: Loan> PmemWork for Lens<'_, P, O> {
         self.dev.load(8 * self.first + word)
     }
 
-    fn first_zero(&mut self, word: u64, count: u64) -> Option<u64> {
-        self.dev.first_zero(8 * self.first + word, count)
+    fn first_zero(&mut self, word: u64, apart: u64, count: u64) -> Option<u64> {
+        self.dev.first_zero(8 * self.first + word, apart, count)
     }
 
     fn store(&mut self, word: u64, value: i64) -> StoreEvent {

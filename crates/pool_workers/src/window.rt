@@ -54,7 +54,7 @@ pub struct Window<P: Pmem, O: Origin> {
     of: PhantomData<O>,
     ghost first_is: { first ≡ O.first },
     ghost count_is: { count ≡ O.lines },
-    ghost small: { O.first + O.lines ≤ 2 ^ 22 },
+    ghost small: { O.first + O.lines ≤ 2 ^ 30 },
     ghost inside: { O.first + O.lines ≤ (P.device dev).lines },
     ghost whole: { (P.device dev).lines ≡ O.whole.lines },
     ghost aside: { AreAside O.first O.lines fenced O.whole.cache
@@ -66,7 +66,7 @@ pub struct Window<P: Pmem, O: Origin> {
 pub fn first_line(sizes: &Sizes, worker: u32) -> u64
     requires worker { worker < 8 }
     ensures first { result ≡ first_line sizes.now worker }
-    ensures small { result + sizes_of.pool_lines sizes.now ≤ 2 ^ 22 }
+    ensures small { result + sizes_of.pool_lines sizes.now ≤ 2 ^ 30 }
 {
     pool_lines(sizes) * u64::from(worker)
 }
@@ -118,8 +118,8 @@ impl<P: Pmem, O: Origin> PmemWork for Window<P, O> {
         self.dev.load(8 * self.first + word)
     }
 
-    fn first_zero(&mut self, word: u64, count: u64) -> Option<u64> {
-        self.dev.first_zero(8 * self.first + word, count)
+    fn first_zero(&mut self, word: u64, apart: u64, count: u64) -> Option<u64> {
+        self.dev.first_zero(8 * self.first + word, apart, count)
     }
 
     fn store(&mut self, word: u64, value: i64) -> StoreEvent {

@@ -82,7 +82,7 @@ inside_seal n f args k le m =
 inside_effect : (z : Sizes) (a n : ℕ) (h : Words) (e : Effect) → IsInRange (heap_words z) e →
     HasRoomFor z.records n e → AreInside (pool_lines z) (events_of z a n h e)
 inside_effect z a n h (Loads w) range room = tt
-inside_effect z a n h (Scans w m) range room = tt
+inside_effect z a n h (Scans w apart m) range room = tt
 inside_effect z a n h (Stores w x) range room = (omega arith, tt)
 inside_effect z a n h (Logs w) range room =
     (omega arith, (omega arith, (omega arith, (omega arith, (tt, tt)))))
@@ -105,7 +105,7 @@ asked_range H EndPool (Stores v x) w range is = absurd (cc)
 asked_range H RollBack (Stores v x) w range is =
     let e : v ≡ w = cc in subst (λ (i : ℕ). i < H) e range
 asked_range H p (Loads v) w range is = absurd (cc)
-asked_range H p (Scans v m) w range is = absurd (cc)
+asked_range H p (Scans v apart m) w range is = absurd (cc)
 asked_range H p (Flushes l) w range is = absurd (cc)
 asked_range H p Fences w range is = absurd (cc)
 asked_range H p Quiet w range is = absurd (cc)

@@ -126,7 +126,7 @@ sealed_play k (e ∷ es) c beside is =
 
 beside_effect : (z : Sizes) (a n : ℕ) (h : Words) (e : Effect) → AreBeside (events_of z a n h e)
 beside_effect z a n h (Loads w) = tt
-beside_effect z a n h (Scans w m) = tt
+beside_effect z a n h (Scans w apart m) = tt
 beside_effect z a n h (Stores w x) = ((λ e. let none : ⊥ = omega arith in none), tt)
 beside_effect z a n h (Logs w) = (
   (λ e. let none : ⊥ = omega arith in none),

@@ -98,7 +98,7 @@ fn parts(alloc: Global, sizes: Sizes) -> Result<ImageParts, AllocError>
 pub fn program(alloc: Global) -> Option<Image>
     ensures { IfSome result (λ i. 3 ≤ length i.parts.txs) }
 {
-    let sizes = Sizes::new(1, 1, 1, 100)?;
+    let sizes = Sizes::new(1, 1, 1, 16, 100)?;
     let Ok(parts) = parts(alloc, sizes) else {
         return None;
     };
