@@ -8,6 +8,7 @@ use Rattle.pmem.specs.Played.{PlaysAll}
 use Rattle.pool_layout.specs.declared.limits.Sizes.{Sizes}
 use Rattle.pool_layout.specs.Sizes.{pool_lines}
 use Rattle.pool_map.specs.PoolFits.{words_of}
+use Rattle.pool_map.specs.declared.limits.TheConstants.{ROOT_WORDS}
 use Rattle.args_log.specs.Created.{creation_events}
 use Rattle.c_lexer.specs.declared.token.Placed.{Placed}
 use Rattle.c_lexer.specs.TokenList.{Tokens}
@@ -54,7 +55,7 @@ module _ (asked : Asked) (text : List ℕ) (compiled : Compiled)
       let has = is.accepted.0 in
       let least : 1 ≤ words_of (shapes_of program.typed).root =
       checked.root program.typed has.0.tokens has.2.spelled is.accepted.1 in
-      let most : words_of (shapes_of program.typed).root ≤ 512 =
+      let most : words_of (shapes_of program.typed).root ≤ ROOT_WORDS =
       (checked.shapes program.typed is.accepted.1).root in (
         has.0,
         record {
@@ -65,7 +66,9 @@ module _ (asked : Asked) (text : List ℕ) (compiled : Compiled)
           formed = subst IsWellFormed is.ir is.well_formed;
           marks = compiled.marks;
           exact = subst (λ (x : Ir). IsExact x.functions compiled.marks) is.ir is.marks;
-          root = is.root ∙ within_same 512 (words_of (shapes_of program.typed).root) least most;
+          root = is.root
+              ∙ within_same ROOT_WORDS (words_of (shapes_of program.typed).root) least most;
+          width = is.width;
           made = is.code ∙ ap (λ (x : Ir). image_of compiled.marks x (sizes_of program)
               (length program.typed.lines)) is.ir;
         },

@@ -22,9 +22,9 @@ use Rattle.cnvm_cli.specs.inside.Opened.{ImageIs}
 use Rattle.cnvm_cli.proofs.Sources.{of_part}
 
 -- the images have so many bytes at most
-pub images_bound : (size count : ℕ) → size ≤ 2 ^ 25 → count ≤ 8 → size * count ≤ 2 ^ 28
+pub images_bound : (size count : ℕ) → size ≤ 2 ^ 33 → count ≤ 8 → size * count ≤ 2 ^ 36
 images_bound size count small few =
-    let most : size * count ≤ 2 ^ 25 * 8 = mul-le-mul small few in omega arith
+    let most : size * count ≤ 2 ^ 33 * 8 = mul-le-mul small few in omega arith
 
 -- the lines before the last compartment, and its own, are all
 pub last_place : (n count : ℕ) → 1 ≤ count → 6 ≤ n → 8 * (n * (count - 1)) + 1 < 8 * (n * count)

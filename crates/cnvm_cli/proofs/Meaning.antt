@@ -319,8 +319,8 @@ plan_meant (plan.ServePool p slots records ticks pool former) told result before
 plan_meant (plan.List p) told result before after ends = ends
 plan_meant (plan.Storm p start count reach plain slots records ticks) told result before after
     ends = (
-      storm_meant (asked_by slots records ticks) (ordered start count reach plain) told.program result
-          before.out after.out before.dev after.dev before.steps after.steps ends.0,
+      storm_meant (asked_by slots records ticks) (ordered start count reach plain) told.program
+          result before.out after.out before.dev after.dev before.steps after.steps ends.0,
       ends.1,
     )
 plan_meant (plan.Why p) told result before after ends = ends

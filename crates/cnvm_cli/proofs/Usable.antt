@@ -15,7 +15,7 @@ pub sizes_same : (asked : Asked) (former new : Compiled) → ComesFromText asked
     → ComesFromText asked new → first_other former.program.typed new.program.typed ≡ None
     → sizes_of new.program ≡ sizes_of former.program
 sizes_same asked former new old text none =
-    moved_sizes former.program new.program none old.1.agrees text.1.agrees
+    moved_sizes former.program new.program none text.1.accepted.1 old.1.agrees text.1.agrees
     (text.1.sizes.0 ∙ sym old.1.sizes.0) (text.1.sizes.1 ∙ sym old.1.sizes.1)
     (text.1.sizes.2 ∙ sym old.1.sizes.2)
 

@@ -16,7 +16,7 @@ use std::alloc::Global;
 /// The length of an image in bytes.
 fn image_size(program: &Program) -> usize
     ensures value { result ≡ image_size program.now }
-    ensures small { result ≤ 2 ^ 25 }
+    ensures small { result ≤ 2 ^ 33 }
 {
     64 * pool_lines(program.image.sizes()) as usize
 }

@@ -4,6 +4,7 @@ use Rattle.std.proofs.Common.{subst, arith}
 use Rattle.std.specs.Prelude.{nat_lt, if◌then◌else◌}
 use Rattle.std.proofs.lemmas.Bool.{ltb-true}
 use Rattle.pool_map.specs.PoolFits.{words_of}
+use Rattle.pool_map.specs.declared.limits.TheConstants.{ROOT_WORDS}
 use Rattle.c_types.specs.Shapes.{shapes_of}
 use Rattle.ir.specs.declared.function.Ir.{Ir}
 use Rattle.ir.specs.WellFormed.{IsWellFormed}
@@ -17,7 +18,7 @@ use Rattle.compiled_law.proofs.Agreeing.{compiled}
 use Rattle.cnvm_compile.specs.FrontEnd.{AcceptsText}
 use Rattle.cnvm_compile.specs.Made.{image_of}
 use Rattle.clobber_pass.specs.Logged.{IsExact}
-use Rattle.cnvm_compile.specs.SizesAsked.{within, HasRoot}
+use Rattle.cnvm_compile.specs.SizesAsked.{within, HasRoot, HasWidth}
 
 -- `within` leaves a number within the limits as it is
 within_same : (most n : ℕ) → 1 ≤ n → n ≤ most → within 1 most n ≡ n
@@ -33,14 +34,15 @@ module _ (text : List ℕ) (marks : MarkTable) (program : Program) where
   agreed_of : (ir : Ir) → AcceptsText text program.typed → lowered program.typed ≡ ir
       → IsExact (lowered program.typed).functions marks → IsWellFormed (lowered program.typed)
       → HasRoot (shapes_of program.typed) (sizes_of program)
+      → HasWidth (shapes_of program.typed) (sizes_of program)
       → program.image.parts ≡ image_of marks (lowered program.typed) (sizes_of program)
       (length program.typed.lines)
       → Agrees program
-  agreed_of ir accepted is marked formed root made =
+  agreed_of ir accepted is marked formed root width made =
       let tree = accepted.0 in
       let least : 1 ≤ words_of (shapes_of program.typed).root =
       checked.root program.typed tree.0.tokens tree.2.spelled accepted.1 in
-      let most : words_of (shapes_of program.typed).root ≤ 512 =
+      let most : words_of (shapes_of program.typed).root ≤ ROOT_WORDS =
       (checked.shapes program.typed accepted.1).root in
       compiled text tree.0 program (record {
         left = tree.1;
@@ -50,7 +52,8 @@ module _ (text : List ℕ) (marks : MarkTable) (program : Program) where
         formed = formed;
         marks = marks;
         exact = marked;
-        root = root ∙ within_same 512 (words_of (shapes_of program.typed).root) least most;
+        root = root ∙ within_same ROOT_WORDS (words_of (shapes_of program.typed).root) least most;
+        width = width;
         made = made;
       })
 
@@ -58,9 +61,10 @@ module _ (text : List ℕ) (marks : MarkTable) (program : Program) where
   pub agreed : (ir : Ir) → AcceptsText text program.typed → ir ≡ lowered program.typed
       → IsExact ir.functions marks → IsWellFormed ir
       → HasRoot (shapes_of program.typed) (sizes_of program)
+      → HasWidth (shapes_of program.typed) (sizes_of program)
       → program.image.parts ≡ image_of marks ir (sizes_of program) (length program.typed.lines)
       → Agrees program
-  agreed ir accepted is marked formed root made =
+  agreed ir accepted is marked formed root width made =
       agreed_of ir accepted (sym is) (subst (λ (x : Ir). IsExact x.functions marks) is marked)
-      (subst IsWellFormed is formed) root
+      (subst IsWellFormed is formed) root width
       (made ∙ ap (λ (x : Ir). image_of marks x (sizes_of program) (length program.typed.lines)) is)

@@ -10,7 +10,7 @@ use Rattle.cnvm_compile.specs.declared.asked.Asked.{Asked}
 use Rattle.cnvm_compile.specs.declared.compiling.Compiled.{Compiled}
 use Rattle.cnvm_compile.specs.FrontEnd.{AcceptsText, IsOnlyTreeOf}
 use Rattle.cnvm_compile.specs.Made.{image_of}
-use Rattle.cnvm_compile.specs.SizesAsked.{HasRoot, HasSizes}
+use Rattle.cnvm_compile.specs.SizesAsked.{HasRoot, HasWidth, HasSizes}
 use Rattle.cnvm_session.specs.Pool.{sizes_of}
 
 -- The program of a text: its one tree, which breaks no rule; the code of the tree, without logs;
@@ -28,5 +28,6 @@ pub record IsCompiled (asked : Asked) (text : List ℕ) (compiled : Compiled) : 
       (length compiled.program.typed.lines)
   pub sizes : HasSizes asked.slots asked.records asked.ticks (sizes_of compiled.program)
   pub root : HasRoot (shapes_of compiled.program.typed) (sizes_of compiled.program)
+  pub width : HasWidth (shapes_of compiled.program.typed) (sizes_of compiled.program)
   pub digest : compiled.program.digest ≡ digest_of text
   pub agrees : Agrees compiled.program

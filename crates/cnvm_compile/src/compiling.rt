@@ -9,8 +9,9 @@ ghost use Rattle.cnvm_compile.specs.Compilation.{IsCompiled};
 ghost use Rattle.cnvm_compile.specs.FrontEnd.{RefusesText};
 ghost use Rattle.cnvm_compile.specs.Made.{image_of};
 ghost use Rattle.pool_map.specs.PoolFits.{words_of};
-ghost use Rattle.cnvm_compile.specs.SizesAsked.{within, HasRoot, HasSizes};
+ghost use Rattle.cnvm_compile.specs.SizesAsked.{within, HasRoot, HasWidth, HasSizes};
 ghost use Rattle.cnvm_session.specs.Pool.{sizes_of};
+ghost use Rattle.pool_map.specs.declared.limits.TheConstants.{ROOT_WORDS};
 
 use crate::asked::Asked;
 use crate::front_end::{ProgramFault, typed_of};
@@ -22,7 +23,7 @@ use instrument::add_logs;
 use ir::Ir;
 use lower::lower;
 use pool_layout::{Sizes, digest};
-use pool_map::Shapes;
+use pool_map::{RECORDS, ROOT_WORDS, SLOTS, Shapes, TICKS, slot_words};
 use std::alloc::{AllocError, Global};
 
 /// A compiled program, with its intermediate code without logs, and the marks of its stores.
@@ -49,17 +50,18 @@ fn within(n: u64, least: u64, most: u64) -> u64
     n
 }
 
-/// How many words the root has. A checked program's root has 1 to 512.
+/// How many words the root has. A checked program's root has at least one, and at most those of
+/// the limit.
 fn root_words(shapes: &Shapes) -> u64
-    ensures value { result ≡ within 1 512 (words_of shapes.now.root) }
+    ensures value { result ≡ within 1 ROOT_WORDS (words_of shapes.now.root) }
     ensures least { 1 ≤ result }
-    ensures most { result ≤ 512 }
+    ensures most { result ≤ ROOT_WORDS }
 {
     let mut words = 0u64;
     for field in shapes.root.as_slice() {
         words = words.saturating_add(field.length.unwrap_or(1));
     }
-    within(words, 1, 512)
+    within(words, 1, ROOT_WORDS)
 }
 
 /// The program that a text is, for a pool of the sizes that are asked for.
@@ -79,11 +81,13 @@ pub fn compile(alloc: Global, text: &[u8], asked: Asked) -> Result<Compiled, Pro
 fn sizes_of(shapes: &Shapes, slots: u64, records: u64, ticks: u64) -> Sizes
     ensures asked { HasSizes slots records ticks result }
     ensures root { HasRoot shapes.now result }
+    ensures width { HasWidth shapes.now result }
 {
-    let slots = within(slots, 1, 65_535);
-    let records = within(records, 1, 4_096);
-    let ticks = within(ticks, 1, 1_000_000);
-    match Sizes::new(slots, records, root_words(shapes), ticks) {
+    let slots = within(slots, 1, SLOTS);
+    let records = within(records, 1, RECORDS);
+    let ticks = within(ticks, 1, TICKS);
+    let width = slot_words(shapes.structs.as_slice());
+    match Sizes::new(slots, records, root_words(shapes), width, ticks) {
         Some(sizes) => sizes,
         None => unreachable!(),
     }

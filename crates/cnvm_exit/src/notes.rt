@@ -280,6 +280,7 @@ fn of_workers<'a>(
         opened,
         ended: line_of(traps.ended),
         undone: line_of(traps.undone),
+        pick: traps.pick,
     };
     workers_answers_note(alloc, run)
 }
@@ -338,6 +339,7 @@ fn of_run<'a>(
         saved: named.image_out,
         ended: line_of(traps.ended),
         undone: line_of(traps.undone),
+        pick: traps.pick,
     };
     answers_note(alloc, run)
 }

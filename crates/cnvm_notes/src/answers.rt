@@ -2,6 +2,7 @@
 
 use crate::lines::{TrapEnd, after_dead, after_slots, first_line, trap_end, unusable};
 use crate::summary::{Refusals, push_message, push_refused, unless_empty, with_line};
+use cache_model::PickFault;
 use cnvm_script::{Command, next_line, read_line};
 use plain_notes::{PoolLeft, Told, of_trap, of_unusable_image};
 use std::alloc::{AllocError, Global};
@@ -24,6 +25,8 @@ pub struct RunTexts<'a> {
     /// that was rolled back.
     pub ended: Option<u64>,
     pub undone: Option<u64>,
+    /// Why the first refused pick was refused.
+    pub pick: Option<PickFault>,
 }
 
 /// What the answers of a script tell: the first trap, the first call that was rolled back, and how
@@ -213,7 +216,7 @@ fn message(alloc: Global, run: RunTexts<'_>, found: Found) -> Result<Option<Stri
         let told = with_saved(alloc, trap, run.saved)?;
         push_message(alloc, &mut message, &told)?;
     }
-    push_refused(alloc, &mut message, run.script_path, refusals)?;
+    push_refused(alloc, &mut message, run.script_path, refusals, run.pick)?;
     Ok(unless_empty(message))
 }
 

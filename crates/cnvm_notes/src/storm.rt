@@ -5,8 +5,8 @@ use crate::summary::with_line;
 use plain_notes::{message_of, of_broken_check, of_storm_trap};
 use std::alloc::{AllocError, Global};
 
-/// The first call of `check` in a storm that didn't give 1: its round, counted from 1, and its text,
-/// which may be empty.
+/// The first call of `check` in a storm that didn't give 1: its round, counted from 1, and its
+/// text, which may be empty.
 #[derive(Clone, Copy)]
 pub struct BrokenCheck<'a> {
     pub round: u64,

@@ -1,5 +1,6 @@
 //! What a message of answers is put together from.
 
+use cache_model::{BadPick, PickFault};
 use plain_notes::{Told, message_of};
 use std::alloc::{AllocError, Global};
 
@@ -29,12 +30,14 @@ pub(crate) fn with_line(
     }
 }
 
-/// The refused commands: how many, the line of the first, and a note on it, which may be empty.
+/// The refused commands: how many, the line of the first, a note on it, which may be empty, and
+/// whether it is one of a pick.
 #[derive(Clone, Copy)]
 pub(crate) struct Refusals {
     count: u64,
     first: u64,
     note: &'static str,
+    is_pick: bool,
 }
 
 impl Refusals {
@@ -43,6 +46,7 @@ impl Refusals {
             count: 0,
             first: 0,
             note: "",
+            is_pick: false,
         }
     }
 
@@ -56,6 +60,7 @@ impl Refusals {
                 count: 1,
                 first: number,
                 note: refusal_note(answer),
+                is_pick: answer.starts_with(b"refused pick"),
             };
         }
         Refusals {
@@ -76,9 +81,6 @@ fn refusal_note(answer: &[u8]) -> &'static str {
     if answer.starts_with(b"refused down") {
         return "the pool waits for `power`";
     }
-    if answer.starts_with(b"refused pick") {
-        return "a line or a version that it names isn't there";
-    }
     if answer.starts_with(b"refused worker") {
         return "there are as many workers as `--workers` says, counted from 0";
     }
@@ -88,19 +90,46 @@ fn refusal_note(answer: &[u8]) -> &'static str {
     ""
 }
 
-/// Adds the number of refused commands, and the line of the first with its note.
+/// What versions the line of a refused pick has.
+fn pick_note(alloc: Global, fault: PickFault) -> Result<String, AllocError> {
+    match fault {
+        PickFault::Falling => {
+            String::from_str(alloc, "picks name lines by rising numbers, each once")
+        }
+        PickFault::Missing(BadPick { line, versions: 0 }) => {
+            format!(in alloc; "the pool has no line {line}")
+        }
+        PickFault::Missing(BadPick { line, versions: 1 }) => {
+            format!(in alloc; "line {line} has one version, 0")
+        }
+        PickFault::Missing(BadPick { line, versions }) => {
+            let newest = versions.saturating_sub(1);
+            format!(in alloc; "line {line} has {versions} versions, 0 to {newest}")
+        }
+    }
+}
+
+/// Adds the number of refused commands, and the line of the first with its note: of a pick, what
+/// versions its line has.
 pub(crate) fn push_refused(
     alloc: Global,
     message: &mut String,
     path: &str,
     refusals: Refusals,
+    pick: Option<PickFault>,
 ) -> Result<(), AllocError> {
     if refusals.count == 0 {
         return Ok(());
     }
     let line = refused_line(alloc, path, refusals.first, refusals.count)?;
     message.push_str(line.as_str())?;
-    push_note(message, refusals.note)
+    match pick {
+        Some(fault) if refusals.is_pick => {
+            let note = pick_note(alloc, fault)?;
+            push_note(message, note.as_str())
+        }
+        _ => push_note(message, refusals.note),
+    }
 }
 
 /// Adds a note as a line of its own, unless it is empty.

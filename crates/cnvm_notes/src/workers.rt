@@ -2,6 +2,7 @@
 
 use crate::lines::{TrapEnd, after_slots, first_line, trap_end, worker_answer};
 use crate::summary::{Refusals, push_message, push_refused, unless_empty, with_line};
+use cache_model::PickFault;
 use cnvm_script::{is_word, next_line};
 use nvm_base::Text;
 use plain_notes::{PoolLeft, Told, of_worker_trap};
@@ -21,6 +22,8 @@ pub struct WorkersTexts<'a> {
     /// first that left it as it was.
     pub ended: Option<u64>,
     pub undone: Option<u64>,
+    /// Why the first refused pick was refused.
+    pub pick: Option<PickFault>,
 }
 
 /// A worker: its last call, and the line of the script that began it; 0 before the first.
@@ -123,7 +126,7 @@ fn message(
     if let Some(trap) = trap {
         push_message(alloc, &mut message, &trap)?;
     }
-    push_refused(alloc, &mut message, run.script_path, refusals)?;
+    push_refused(alloc, &mut message, run.script_path, refusals, run.pick)?;
     Ok(unless_empty(message))
 }
 

@@ -18,7 +18,7 @@ words_more h w next n m next_is n_is old new total x x_is new_is was =
 pub objects_more : (s : Sizes) (structs : List StructShape) (h : ℕ → ℤ) (slot next n m : ℕ)
     → next ≡ suc slot → n ≡ suc m
     → (old new total : List (Option Object)) (x : Option Object)
-    → x ≡ object_in structs h (slot_word s slot) → new ≡ old ++ x ∷ []
+    → x ≡ object_in s structs h (slot_word s slot) → new ≡ old ++ x ∷ []
     → old ++ objects_from s structs h slot n ≡ total
     → new ++ objects_from s structs h next m ≡ total
 objects_more s structs h slot next n m next_is n_is old new total x x_is new_is was =

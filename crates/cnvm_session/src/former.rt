@@ -1,6 +1,6 @@
 //! Which struct of a program's former text differs in its new one.
 
-ghost use Rattle.std.specs.Prelude.{◌≡◌, drop, IfOk, map, option_map};
+ghost use Rattle.std.specs.Prelude.{◌≡◌, IfOk, map, option_map};
 ghost use Rattle.c_tree.specs.ItemTree.{field_tree, length_tree};
 ghost use Rattle.c_tree.specs.StmtTree.{type_tree};
 ghost use Rattle.cnvm_session.specs.Former as former_is;
@@ -13,32 +13,32 @@ use c_tree::item::{Field, Length};
 use c_tree::stmt::TypeName;
 use c_types::{Layout, Program, Typed};
 use nvm_base::Text;
+use pool_map::slot_words;
 use std::alloc::{AllocError, Global};
 
-/// The most words of a struct that has a number.
-const NUMBERED_WORDS: u64 = 15;
-
 /// The name of the first struct of the former program that isn't the same in the new one: the
-/// root's, if the roots have other fields; else that of a numbered struct. `None` if there is none,
-/// so that a pool of the former program is one of the new program too.
+/// root's, if the roots have other fields; else that of a numbered struct, or of a new one that is
+/// too large for the former slots. `None` if there is none, so that a pool of the former program is
+/// one of the new program too.
 pub fn first_other(alloc: Global, former: &Typed, new: &Typed) -> Result<Option<Text>, AllocError>
     ensures { IfOk result (λ name. name ≡ former_is.first_other former.now new.now) }
 {
+    let room = slot_words(former.shapes().structs.as_slice()) - 1;
     let former = Program::new(alloc, former.ast().items())?;
     let new = Program::new(alloc, new.ast().items())?;
-    match other_name(&former, &new) {
+    match other_name(room, &former, &new) {
         None => Ok(None),
         Some(name) => Ok(Some(text_of(alloc, name)?)),
     }
 }
 
-/// The name of the first struct that isn't the same.
-fn other_name<'a>(former: &Program<'a>, new: &Program<'a>) -> Option<&'a str>
+/// The name of the first struct that isn't the same, if a former slot has room for this many words.
+fn other_name<'a>(room: u64, former: &Program<'a>, new: &Program<'a>) -> Option<&'a str>
     ensures { option_map (λ s. s.now) result
-        ≡ former_is.other_in (tables_in former.now) (tables_in new.now) }
+        ≡ former_is.other_in room (tables_in former.now) (tables_in new.now) }
 {
     if are_same_fields(root_fields(former), root_fields(new)) {
-        numbered_other(former.structs(), new.structs())
+        numbered_other(room, former, new)
     } else {
         Some(root_name(former, new))
     }
@@ -69,35 +69,54 @@ fn root_name<'a>(former: &Program<'a>, new: &Program<'a>) -> &'a str
 }
 
 /// The name of the first numbered struct of the former ones that isn't the same at its place among
-/// the new ones.
-fn numbered_other<'a>(former: &[Layout<'a>], new: &[Layout<'_>]) -> Option<&'a str>
+/// the new ones, or of the first one behind these that is too large.
+fn numbered_other<'a>(room: u64, former: &Program<'a>, new: &Program<'a>) -> Option<&'a str>
     ensures { option_map (λ s. s.now) result
-        ≡ former_is.numbered_other (shapes.numbered former.now) (shapes.numbered new.now) }
+        ≡ former_is.numbered_other room (shapes.numbered_in (tables_in former.now))
+        (shapes.numbered_in (tables_in new.now)) }
 {
-    let mut at = 0;
-    for layout in former {
-        if layout.words() <= NUMBERED_WORDS {
-            match after_same(layout, new, at) {
+    let mut place = 0u64;
+    let mut next = 0u64;
+    for layout in former.structs() {
+        if layout.words() <= former.pointed_limit(place) {
+            match after_same(layout, new, next) {
                 None => return Some(layout.name().text.as_str()),
-                Some(next) => at = next,
+                Some(after) => next = after,
             }
+        }
+        place += 1;
+    }
+    first_wider(room, new, next)
+}
+
+/// The place after the first numbered struct from this place on, if that is the same as the former
+/// one.
+fn after_same(former: &Layout<'_>, new: &Program<'_>, from: u64) -> Option<u64>
+    ensures { option_map (λ next. shapes.numbered_from next (tables_in new.now)) result
+        ≡ former_is.after_same former.now (shapes.numbered_from from (tables_in new.now)) }
+{
+    let structs = new.structs();
+    for at in from..structs.len() as u64 {
+        if structs[at as usize].words() <= new.pointed_limit(at) {
+            if is_same_struct(former, &structs[at as usize]) {
+                return Some(at + 1);
+            }
+            return None;
         }
     }
     None
 }
 
-/// The place after the first numbered struct from this place on, if that is the same as the former
-/// one.
-fn after_same(former: &Layout<'_>, structs: &[Layout<'_>], from: usize) -> Option<usize>
-    ensures { option_map (λ next. shapes.numbered (drop next structs.now)) result
-        ≡ former_is.after_same former.now (shapes.numbered (drop from structs.now)) }
+/// The name of the first numbered struct from this place on that has more words than these.
+fn first_wider<'a>(room: u64, new: &Program<'a>, from: u64) -> Option<&'a str>
+    ensures { option_map (λ s. s.now) result
+        ≡ former_is.first_wider room (shapes.numbered_from from (tables_in new.now)) }
 {
-    for at in from..structs.len() {
-        if structs[at].words() <= NUMBERED_WORDS {
-            if is_same_struct(former, &structs[at]) {
-                return Some(at + 1);
-            }
-            return None;
+    let structs = new.structs();
+    for at in from..structs.len() as u64 {
+        let layout = &structs[at as usize];
+        if layout.words() > room && layout.words() <= new.pointed_limit(at) {
+            return Some(layout.name().text.as_str());
         }
     }
     None

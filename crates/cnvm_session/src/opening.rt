@@ -128,7 +128,7 @@ fn play_opening<P: PmemWork>(dev: &mut P, words: &[i64], lines: u64) -> Result<(
 /// Writes the words of an image on so many blank lines. An image with another number of words is
 /// answered as `NoMemory` and changes nothing; reading an image never gives one.
 pub fn open_lines<P: Pmem>(lines: u64, words: &[i64], dev: &mut P) -> Result<(), StartFault>
-    requires small { lines ≤ 2 ^ 22 }
+    requires small { lines ≤ 2 ^ 30 }
     ensures done { OnOk result (PlaysAll (blanked lines (P.device dev.old))
         (opening_events lines words.now) (P.device dev.new)) }
     ensures whole { OnOk result (length words.now ≡ 8 * lines) }

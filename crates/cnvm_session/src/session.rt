@@ -33,7 +33,7 @@ use crate::outcome::{
 };
 use crate::program::Program;
 use crate::showing::pool_text;
-use cache_model::{Choice, Pick};
+use cache_model::{Choice, Pick, PickFault};
 use cnvm_script::Command;
 use nvm_base::Steps;
 use pm_machine::{Image, Spare, Stop};
@@ -52,6 +52,7 @@ use tx_run::{call, look};
 pub struct Session {
     mode: Mode,
     spare: Spare,
+    pick_fault: Option<PickFault>,
 }
 
 impl Model for Session {
@@ -70,6 +71,7 @@ impl Session {
         Session {
             mode,
             spare: Spare::new(),
+            pick_fault: None,
         }
     }
 
@@ -87,6 +89,11 @@ impl Session {
     /// trap, where it trapped.
     pub fn stop(&self) -> Option<Stop> {
         self.spare.stop()
+    }
+
+    /// After an answer that refuses a pick: why.
+    pub fn pick_fault(&self) -> Option<PickFault> {
+        self.pick_fault
     }
 }
 
@@ -434,10 +441,14 @@ impl Session {
         ensures lines { (P.device dev.new).lines ≡ (P.device dev.old).lines }
     {
         if let Some(line) = first_fallen(choice.picks.as_slice()) {
+            self.pick_fault = Some(PickFault::Falling);
             return Answer::RefusedPick(line);
         }
         match dev.power(choice) {
-            Err(pick) => Answer::RefusedPick(pick.line),
+            Err(pick) => {
+                self.pick_fault = Some(PickFault::Missing(pick));
+                Answer::RefusedPick(pick.line)
+            }
             Ok(()) => self.recover(alloc, program, dev, steps),
         }
     }

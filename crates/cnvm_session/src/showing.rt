@@ -54,16 +54,16 @@ fn heap_slice<P: PmemWork>(
     Ok(all)
 }
 
-/// How many words these fields have, if there are at most 15.
-fn few_words(fields: &[FieldShape]) -> Option<u64>
+/// How many words these fields have, if there are at most so many.
+fn few_words(most: u64, fields: &[FieldShape]) -> Option<u64>
     ensures some { IfSome result (λ n. n ≡ words_of fields.now) }
-    ensures few { IfSome result (λ n. n ≤ 15) }
-    ensures none { IfNone result (15 < words_of fields.now) }
+    ensures few { IfSome result (λ n. n ≤ most) }
+    ensures none { IfNone result (most < words_of fields.now) }
 {
     let mut all = 0;
     for field in fields {
         let own = field.length.unwrap_or(1);
-        if own > 15 - all {
+        if own > most - all {
             return None;
         }
         all += own;
@@ -104,10 +104,10 @@ fn object_with<P: PmemWork>(
     requires start { start < 2 ^ 31 }
     requires lines { (P.device dev.now).lines ≡ pool_lines sizes.now }
     ensures { (P.device dev.now).on ≡ true
-        → IfOk result (λ o. o ≡ object_with (heap_of sizes.now (view (P.device dev.now).cache))
-        start kind (Some shape.now)) }
+        → IfOk result (λ o. o ≡ object_with sizes.now
+        (heap_of sizes.now (view (P.device dev.now).cache)) start kind (Some shape.now)) }
 {
-    match few_words(shape.fields.as_slice()) {
+    match few_words(sizes.slot_words() - 1, shape.fields.as_slice()) {
         None => Ok(None),
         Some(count) => {
             let fields = heap_slice(alloc, sizes, dev, start + 1, count)?;
@@ -127,7 +127,7 @@ fn object_in<P: PmemWork>(
     requires start { start < 2 ^ 31 }
     requires lines { (P.device dev.now).lines ≡ pool_lines sizes.now }
     ensures { (P.device dev.now).on ≡ true
-        → IfOk result (λ o. o ≡ object_in structs.now
+        → IfOk result (λ o. o ≡ object_in sizes.now structs.now
         (heap_of sizes.now (view (P.device dev.now).cache)) start) }
 {
     let Some(kind) = kind_in(heap_word(sizes, dev, start)) else {

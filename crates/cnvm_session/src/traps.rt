@@ -1,8 +1,10 @@
-//! The traps that a run answered: what, and where its machine stopped. It is data for a message; no
-//! answer, no byte written and no status depends on it.
+//! The traps and refused picks that a run answered: what, where its machine stopped, and which
+//! versions there were. It is data for a message; no answer, no byte written and no status depends
+//! on it.
 
 use crate::answer::Answer;
 use crate::session::Session;
+use cache_model::PickFault;
 use cnvm_script::Command;
 use pm_machine::Stop;
 use pool_map::TrapKind;
@@ -33,6 +35,8 @@ pub struct Traps {
     pub round: u64,
     pub call: Option<String>,
     pub broken: Option<StormCall>,
+    /// Why the first refused pick was refused.
+    pub pick: Option<PickFault>,
 }
 
 impl Traps {
@@ -44,6 +48,7 @@ impl Traps {
             round: 0,
             call: None,
             broken: None,
+            pick: None,
         }
     }
 
@@ -54,6 +59,10 @@ impl Traps {
             Answer::Trap(kind) | Answer::RecoveredTrap(kind) => self.ends(*kind, session.stop()),
             Answer::Aborted(kind) | Answer::RecoveredAborted(kind) => {
                 self.undoes(*kind, session.stop());
+                false
+            }
+            Answer::RefusedPick(_) => {
+                self.refuses(session.pick_fault());
                 false
             }
             _ => false,
@@ -73,6 +82,13 @@ impl Traps {
     pub fn undoes(&mut self, kind: TrapKind, stop: Option<Stop>) {
         if self.undone.is_none() {
             self.undone = Some(trap_at(kind, stop));
+        }
+    }
+
+    /// A pick that was refused.
+    pub fn refuses(&mut self, fault: Option<PickFault>) {
+        if self.pick.is_none() {
+            self.pick = fault;
         }
     }
 

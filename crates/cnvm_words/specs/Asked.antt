@@ -13,6 +13,7 @@ use Rattle.cnvm_words.specs.declared.plan.Plan.{Plan}
 use Rattle.cnvm_words.specs.declared.plan.Plan.TheVariants.{Run, List as Listing, Storm, Why}
 use Rattle.cnvm_words.specs.declared.plan.Plan.TheVariants.{Workers, Emit, RunPool, Serve}
 use Rattle.cnvm_words.specs.declared.plan.Plan.TheVariants.{ServePool, WorkersPool, Code}
+use Rattle.pool_map.specs.declared.limits.TheConstants.{RECORDS, SLOTS, TICKS}
 
 abbrev pub in_limits : (least most n : ℕ) → Option ℕ
 in_limits least most n = if nat_le least n && nat_le n most then Some n else None
@@ -31,9 +32,9 @@ abbrev pub asked_pool : List Row → Option (ℕ × ℕ × ℕ)
 asked_pool rows =
     option_and_then (λ slots. option_and_then (λ records.
     option_map (λ ticks. (slots, records, ticks))
-    (number_or 100000 1 1000000 (first_of (codes "ticks") rows)))
-    (number_or 256 1 4096 (first_of (codes "log") rows)))
-    (number_or 1024 1 65535 (first_of (codes "slots") rows))
+    (number_or 100000 1 TICKS (first_of (codes "ticks") rows)))
+    (number_or 256 1 RECORDS (first_of (codes "log") rows)))
+    (number_or 1024 1 SLOTS (first_of (codes "slots") rows))
 
 -- a pool's file isn't named together with an image, and a former text only with a pool's file
 abbrev pub run_on : (program script : List ℕ) → (slots records ticks : ℕ)

@@ -6,9 +6,9 @@ use std::alloc::AllocError;
 /// What the command line asks for. `plan_of` keeps the numbers within their limits.
 #[derive(Drop)]
 pub enum Plan {
-    /// Runs the script's commands on the program. `slots` is from 1 to 65,535, `records` from 1 to
-    /// 4,096 and `ticks` from 1 to 1,000,000. With `strict` an answer that is a trap or a refusal
-    /// changes the status.
+    /// Runs the script's commands on the program. `slots` is from 1 to 1,048,576, `records` from 1
+    /// to 65,536 and `ticks` from 1 to 1,000,000. With `strict` an answer that is a trap or a
+    /// refusal changes the status.
     Run {
         program_path: Text,
         script_path: Text,

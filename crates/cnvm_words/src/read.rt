@@ -22,6 +22,7 @@ use clap::ArgMatches;
 use clap::error::{Error, ErrorKind};
 use cnvm_script::numeral;
 use nvm_base::Text;
+use pool_map::{RECORDS, SLOTS, TICKS};
 use std::alloc::{AllocError, Global};
 
 /// The value of the option with this name.
@@ -103,9 +104,9 @@ fn number_or(matches: &ArgMatches<'_>, id: &str, default: u64, least: u64, most:
 fn pool_of(matches: &ArgMatches<'_>) -> Option<(u64, u64, u64)>
     ensures { result ≡ asked_pool (rows_of (found_of matches.now)) }
 {
-    let slots = number_or(matches, "slots", 1_024, 1, 65_535)?;
-    let records = number_or(matches, "log", 256, 1, 4_096)?;
-    let ticks = number_or(matches, "ticks", 100_000, 1, 1_000_000)?;
+    let slots = number_or(matches, "slots", 1_024, 1, SLOTS)?;
+    let records = number_or(matches, "log", 256, 1, RECORDS)?;
+    let ticks = number_or(matches, "ticks", 100_000, 1, TICKS)?;
     Some((slots, records, ticks))
 }
 

@@ -7,7 +7,9 @@ use Rattle.std.specs.Prelude.{slice_get, option_map, if◌then◌else◌, Ok}
 use Rattle.std.proofs.lemmas.List.{length-map}
 use Rattle.std.proofs.lemmas.Option.{slice_get-map, slice_get_within, none-some}
 use Rattle.cache_model.specs.Cache.{Words}
+use Rattle.pool_layout.proofs.Apart.{same_heap_place}
 use Rattle.pool_layout.specs.declared.limits.Sizes.{Sizes}
+use Rattle.pool_map.specs.PoolFits.{words_of}
 use Rattle.pool_map.specs.PoolMap.{PoolMap}
 use Rattle.nvm_base.specs.Wrap.{IsWord}
 use Rattle.nvm_base.proofs.Lists.{all_at}
@@ -88,7 +90,6 @@ use Rattle.session_law.specs.Agrees.{Matches, RunsAs, Agrees}
 use Rattle.compiled_law.specs.inside.Runs.{EndsAs}
 use Rattle.compiled_law.specs.inside.Records.{asked_of, fresh}
 use Rattle.compiled_law.specs.Law.{IsCompiledFrom, CompiledLaw, ComesLaw}
-use Rattle.compiled_law.proofs.Apart.{heap_apart}
 use Rattle.compiled_law.proofs.Looking.{named_const, only_looks}
 use Rattle.compiled_law.proofs.Marked.{all_stores}
 use Rattle.compiled_law.proofs.Recording.{they_take}
@@ -96,6 +97,7 @@ use Rattle.compiled_law.proofs.Entering.{code_of, parameters_same, entries_same,
 use Rattle.compiled_law.proofs.Numbers.{all_below, logged_long}
 use Rattle.compiled_law.proofs.Numbers.{is_pool, enough_steps}
 use Rattle.compiled_law.proofs.Room.{has_room_for}
+use Rattle.compiled_law.proofs.Widths.{fits_slot}
 use Rattle.compiled_law.proofs.Sounding.{compiled_run}
 
 -- an instruction of the code is the same one in the code with its logs
@@ -207,7 +209,10 @@ module _ (text : List ℕ) (list : Tokens) (program : Program)
   fit = record {
     pool = is_pool s;
     root = sym c.root;
-    short = (shapes tree c.checked).short;
+    short = λ k shape is.
+        subst (λ (n : ℕ). words_of shape.fields < n) (sym c.width)
+        (fits_slot (shapes_of tree).structs k shape is
+        ((shapes tree c.checked).short k shape is));
     few = (shapes tree c.checked).few;
   }
 
@@ -398,11 +403,11 @@ module _ (text : List ℕ) (list : Tokens) (program : Program)
                 t.functions g ∙ ap (option_map (lowered_function t tree)) e.found,
             e.marked,
           ) in
-          let enough : 2 * k * most ≤ program.image.parts.most =
-          subst (λ (x : ℕ). 2 * k * most ≤ x)
+          let enough : 2 * k * most s ≤ program.image.parts.most =
+          subst (λ (x : ℕ). 2 * k * most s ≤ x)
           (sym (ap (λ (p : ImageParts). p.most) c.made))
           (enough_steps s (length tree.lines) (whole plain.functions) long) in
-          let ran = compiled_run heap_apart covered keep words_stay marks plain c.formed
+          let ran = compiled_run same_heap_place covered keep words_stay marks plain c.formed
           (lowering.parameters tree c.checked) all_marked constants_plain (logs tree c.checked)
           program.image is_compiled (suc i) entry
           (ap (slice_get program.image.parts.txs) (one_less i) ∙ found) transaction_is args h w
@@ -463,6 +468,7 @@ module _ (text : List ℕ) (list : Tokens) (program : Program)
   pub agrees : Agrees program
   agrees = record {
     root = fit.root;
+    width = c.width;
     parameters = parameters_are;
     few = few_are;
     runs = runs;

@@ -1,12 +1,14 @@
 -- A machine's run whose loads, stores and logs show those of the code is covered if the first store
 -- to each input of the code is logged.
-use Rattle.std.proofs.Common.{◌≡◌, ◌≢◌, ℕ, zero, suc, ◌+◌, ◌<◌, ◌≤◌, arith, Bool, true, List, []}
-use Rattle.std.proofs.Common.{◌∷◌, refl, sym, ap, ◌∙◌, subst, inl, inr, ⊎_elim}
+use Rattle.std.proofs.Common.{◌≡◌, ◌≢◌, ℕ, zero, suc, ◌+◌, ◌-◌, ◌*◌, ◌<◌, ◌≤◌, arith, Bool, true}
+use Rattle.std.proofs.Common.{List, [], ◌∷◌, refl, sym, ap, ◌∙◌, subst, inl, inr, ⊎_elim}
 use Rattle.std.proofs.lemmas.Bool.{true≢false}
 use mathlib.Core.Logic.{◌⊎◌}
 use Rattle.pool_layout.specs.declared.limits.Sizes.{Sizes}
 use Rattle.pool_layout.specs.declared.places.HeapPlace.TheVariants.{Header}
 use Rattle.pool_layout.specs.Places.{HeapApart, IsHeapPlace}
+use Rattle.pool_layout.specs.Sizes.{slot_words}
+use Rattle.pool_layout.proofs.Slots.{slot_after}
 use Rattle.ir.specs.declared.site.Site.{Site}
 use Rattle.code_meaning.specs.Code.{Spot, InRoot, InSlot}
 use Rattle.code_meaning.specs.Deeds.{Deed}
@@ -33,10 +35,10 @@ input_accesses : (es : List Effect) (w : ℕ) → past.IsInput (seen_all es) w
 input_accesses [] w h = h
 input_accesses (Loads u ∷ es) w (inl e) = inl e
 input_accesses (Loads u ∷ es) w (inr h) = inr (input_accesses es w h)
-input_accesses (Scans u many ∷ es) w h =
-    input_headers u many w (seen_all (accesses es))
+input_accesses (Scans u apart many ∷ es) w h =
+    input_headers u apart many w (seen_all (accesses es))
     (⊎_elim (λ is. inl is) (λ later. inr (input_accesses es w later))
-    (headers_input u many w (seen_all es) h))
+    (headers_input u apart many w (seen_all es) h))
 input_accesses (Stores u x ∷ es) w h = (h.0, input_accesses es w h.1)
 input_accesses (Logs u ∷ es) w h = input_accesses es w h
 input_accesses (Flushes l ∷ es) w h = input_accesses es w h
@@ -47,9 +49,9 @@ overwritten_accesses : (es : List Effect) (w : ℕ) → past.IsOverwritten (seen
     → past.IsOverwritten (seen_all (accesses es)) w
 overwritten_accesses [] w h = h
 overwritten_accesses (Loads u ∷ es) w h = overwritten_accesses es w h
-overwritten_accesses (Scans u many ∷ es) w h =
-    over_headers u many w (seen_all (accesses es))
-    (overwritten_accesses es w (headers_over u many w (seen_all es) h))
+overwritten_accesses (Scans u apart many ∷ es) w h =
+    over_headers u apart many w (seen_all (accesses es))
+    (overwritten_accesses es w (headers_over u apart many w (seen_all es) h))
 overwritten_accesses (Stores u x ∷ es) w (inl e) = inl e
 overwritten_accesses (Stores u x ∷ es) w (inr h) = inr (overwritten_accesses es w h)
 overwritten_accesses (Logs u ∷ es) w h = overwritten_accesses es w h
@@ -61,9 +63,9 @@ logged_accesses : (es : List Effect) (w : ℕ) → past.IsLoggedFirst (seen_all 
     → past.IsLoggedFirst (seen_all es) w
 logged_accesses [] w h = h
 logged_accesses (Loads u ∷ es) w h = logged_accesses es w h
-logged_accesses (Scans u many ∷ es) w h =
-    first_headers u many w (seen_all es)
-    (logged_accesses es w (headers_first u many w (seen_all (accesses es)) h))
+logged_accesses (Scans u apart many ∷ es) w h =
+    first_headers u apart many w (seen_all es)
+    (logged_accesses es w (headers_first u apart many w (seen_all (accesses es)) h))
 logged_accesses (Stores u x ∷ es) w h = (h.0, logged_accesses es w h.1)
 logged_accesses (Logs u ∷ es) w (inl e) = inl e
 logged_accesses (Logs u ∷ es) w (inr h) = inr (logged_accesses es w h)
@@ -101,13 +103,19 @@ module _ (apart : HeapApart) (s : Sizes) (logged : Site → Bool) where
   not_header x q a b e = no_header x q (apart s (place_of x) (Header q) a b e)
 
   -- a header that is loaded belongs to a slot
-  header_slot : (q n u : ℕ) → 1 ≤ q → IsHeader (header_word s q) n u →
+  header_slot : (q n u : ℕ) → 1 ≤ q → IsHeader (header_word s q) (slot_words s) n u →
       (p : ℕ) × (1 ≤ p) × (p < q + n) × (u ≡ header_word s p)
   header_slot q zero u low is = absurd is
   header_slot q (suc n) u low (inl e) = (q, low, omega arith, e)
   header_slot q (suc n) u low (inr is) =
-      let next : header_word s q + 16 ≡ header_word s (q + 1) = omega arith in
-      let p = header_slot (q + 1) n u (omega arith) (subst (λ (w : ℕ). IsHeader w n u) next is) in
+      let after : slot_words s * (q - 1) + slot_words s ≡ slot_words s * q =
+      slot_after (slot_words s) q low in
+      let before : slot_words s * (q + 1 - 1) ≡ slot_words s * q =
+      ap (λ (k : ℕ). slot_words s * k) (omega arith) in
+      let next : header_word s q + slot_words s ≡ header_word s (q + 1) =
+      omega (arith, after, before) in
+      let p = header_slot (q + 1) n u (omega arith)
+      (subst (λ (w : ℕ). IsHeader w (slot_words s) n u) next is) in
       (p.0, p.1, omega (arith, p.2), p.3)
 
   -- a header's first store is logged
@@ -117,9 +125,9 @@ module _ (apart : HeapApart) (s : Sizes) (logged : Site → Bool) where
   header_logged q at ds es done h = absurd h
   header_logged q at ds es (looks {ds = a} {es = b} p there rest) h = header_logged q at a b rest h
   header_logged q at ds es (scans {ds = a} {es = b} n few rest) h =
-      first_headers (header_word s 1) n (header_word s q) (seen_all b)
-      (header_logged q at a b rest (headers_over (header_word s 1) n (header_word s q)
-      (seen_all b) h))
+      first_headers (header_word s 1) (slot_words s) n (header_word s q) (seen_all b)
+      (header_logged q at a b rest
+      (headers_over (header_word s 1) (slot_words s) n (header_word s q) (seen_all b) h))
   header_logged q at ds es (reads {ds = a} {es = b} x there rest) h = header_logged q at a b rest h
   header_logged q at ds es (plain {ds = a} {es = b} site x v there unlogged rest) (inl e) =
       absurd (not_header x q there at (sym e))
@@ -143,9 +151,9 @@ module _ (apart : HeapApart) (s : Sizes) (logged : Site → Bool) where
   word_logged x at ds es (looks {ds = a} {es = b} p there rest) need h =
       word_logged x at a b rest need h
   word_logged x at ds es (scans {ds = a} {es = b} n few rest) need h =
-      first_headers (header_word s 1) n (heap_word s x) (seen_all b)
+      first_headers (header_word s 1) (slot_words s) n (heap_word s x) (seen_all b)
       (word_logged x at a b rest need
-      (headers_over (header_word s 1) n (heap_word s x) (seen_all b) h))
+      (headers_over (header_word s 1) (slot_words s) n (heap_word s x) (seen_all b) h))
   word_logged x at ds es (reads {ds = a} {es = b} y there rest) need h =
       word_logged x at a b rest need h
   word_logged x at ds es (plain {ds = a} {es = b} site y v there unlogged rest) need h =
@@ -190,16 +198,16 @@ module _ (apart : HeapApart) (s : Sizes) (logged : Site → Bool) where
       covered w a b rest need input over
   covered w ds es (scans {ds = a} {es = b} n few rest) need input over =
       let later : past.IsOverwritten (seen_all b) w =
-      headers_over (header_word s 1) n w (seen_all b) over in
-      first_headers (header_word s 1) n w (seen_all b)
+      headers_over (header_word s 1) (slot_words s) n w (seen_all b) over in
+      first_headers (header_word s 1) (slot_words s) n w (seen_all b)
       (⊎_elim
-      (λ (is : IsHeader (header_word s 1) n w).
+      (λ (is : IsHeader (header_word s 1) (slot_words s) n w).
       let p = header_slot 1 n w (omega arith) is in
       subst (λ (u : ℕ). past.IsLoggedFirst (seen_all b) u) (sym p.3)
       (header_logged p.0 (p.1, omega (arith, p.2, few)) a b rest
       (subst (λ (u : ℕ). past.IsOverwritten (seen_all b) u) p.3 later)))
       (λ (more : past.IsInput (seen_all b) w). covered w a b rest need more later)
-      (headers_input (header_word s 1) n w (seen_all b) input))
+      (headers_input (header_word s 1) (slot_words s) n w (seen_all b) input))
   covered w ds es (reads {ds = a} {es = b} y there rest) need (inl e) over =
       subst (λ (n : ℕ). past.IsLoggedFirst (seen_all b) n) (sym e)
       (word_logged y there a b rest (λ c first. need y c there (sym e) (inl refl) first)

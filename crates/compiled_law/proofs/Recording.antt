@@ -103,7 +103,7 @@ module _ (p : Policy) where
   asked_accesses : (es : List Effect) → asked_in p (accesses es) ≡ asked_in p es
   asked_accesses [] = refl
   asked_accesses (Loads w ∷ es) = asked_accesses es
-  asked_accesses (Scans w many ∷ es) = asked_accesses es
+  asked_accesses (Scans w apart many ∷ es) = asked_accesses es
   asked_accesses (Stores w x ∷ es) = ap (asked_before (rolled p w)) (asked_accesses es)
   asked_accesses (Logs w ∷ es) = ap (λ (ws : List ℕ). w ∷ ws) (asked_accesses es)
   asked_accesses (Flushes l ∷ es) = asked_accesses es

@@ -24,7 +24,7 @@ use Rattle.codegen.specs.Emit.{local_code, control, piece_width, instruction_pla
 use Rattle.ir.specs.Moving.{is_log, place_in}
 use Rattle.codegen.specs.Emit.{code_from}
 use Rattle.machine_law.specs.emitted.Standing.{HasRoom}
-use Rattle.machine_law.proofs.emitted.Steps.{forward_code}
+use Rattle.machine_law.proofs.emitted.Steps.{code_length}
 
 both : (a b : Bool) → a ≡ true → b ≡ true → a && b ≡ true
 both a b e f = ap₂ (λ x y. x && y) e f
@@ -81,8 +81,8 @@ code_low program r n (i ∷ code) all =
 
 -- the code of each instruction is short
 piece_short : (s : Sizes) (h : Shapes) (b : Bool) (i : Instruction)
-    → length (local_code s h b i) ≤ 48
-piece_short s h b i = omega (arith, (forward_code s h b i).1)
+    → length (local_code s h b i) ≤ 55
+piece_short s h b i = code_length s h b i
 
 control_short : (tx : Bool) (to : ℕ → ℕ) (i : Instruction) → length (control tx to i) ≤ 3
 control_short true to (ir.Return from) = omega arith
@@ -102,7 +102,7 @@ control_short tx to (ir.Trap kind) = omega arith
 control_short tx to (ir.Log x) = omega arith
 
 code_short : (s : Sizes) (h : Shapes) (tx : Bool) (base : ℕ) (table : List ℕ) (p : ℕ) (b : Bool)
-    (code : List Instruction) → length (code_from s h tx base table p b code) ≤ 51 * length code
+    (code : List Instruction) → length (code_from s h tx base table p b code) ≤ 58 * length code
 code_short s h tx base table p b [] = omega arith
 code_short s h tx base table p b (i ∷ code) =
     let first : List Op = control tx (place_in table) i in
@@ -119,7 +119,7 @@ code_short s h tx base table p b (i ∷ code) =
     )
 
 pub has_room_for : (s : Sizes) (program : Ir) (u : IrFunction) → IsFunction program u
-    → u.registers ≤ 2 ^ 32 - 9 → 51 * length u.code < 2 ^ 32 → HasRoom s program.shapes u
+    → u.registers ≤ 2 ^ 32 - 9 → 58 * length u.code < 2 ^ 32 → HasRoom s program.shapes u
 has_room_for s program u formed few short = record {
   registers = both (nat_le u.registers (2 ^ 32 - 9)) (list_all (is_below u.registers) u.code)
       (le-leb u.registers (2 ^ 32 - 9) few)

@@ -30,7 +30,7 @@ use Rattle.pm_machine.specs.declared.effect.End.{End}
 use Rattle.pm_machine.specs.declared.effect.End.TheVariants.{Halted, Trapped}
 use Rattle.pm_machine.specs.declared.image.Image.{Image}
 use Rattle.pm_machine.specs.declared.op.TxEntry.{TxEntry}
-use Rattle.pm_machine.specs.Machine.{Run, Finished, mrun}
+use Rattle.pm_machine.specs.Machine.{Finished, mrun}
 use Rattle.pm_machine.specs.Machine as machine
 use Rattle.pm_machine.specs.Effects.{heap_end}
 use Rattle.pm_machine.specs.Logging.{blank, takes}
@@ -128,7 +128,7 @@ pub compiled_run : HeapApart → CoverLaw → KeepLaw → WordsLaw → (marks : 
     (args : List ℤ) (heap : Words) (w : PoolMap) → HoldWords args → HasWords w →
     Stands image.parts.sizes heap w → PoolFits ir.shapes w → (k m : ℕ) →
     HasResult (exec ir k (code_start entry.function args w image.parts.sizes.ticks))
-    → 2 * k * most ≤ m →
+    → 2 * k * most image.parts.sizes ≤ m →
     RunIs image (logged_program marks ir) heap
     (exec ir k (code_start entry.function args w image.parts.sizes.ticks))
     (λ r. fresh [] (asked_of r (table.is_logged marks) image.parts.sizes
@@ -150,9 +150,10 @@ compiled_run apart cover keep law marks ir formed keeps whole constants bare ima
     records_are marks ir bare r image.parts.sizes k (code_start entry.function args w t) es
     (subst (λ (ds : List Deed). ShowsDeeds image.parts.sizes (is_logged_in_code L) ds
     (accesses es)) (same_deeds marks ir entry.function args w t k over) shows) in
-    run_more image L heap (exec ir k (code_start entry.function args w t)) n (2 * k * most) m tx
+    run_more image L heap (exec ir k (code_start entry.function args w t)) n
+    (2 * k * most image.parts.sizes) m tx
     args enough
-    (run_is apart image L compiled tx entry found args heap (2 * k * most)
+    (run_is apart image L compiled tx entry found args heap (2 * k * most image.parts.sizes)
     (deeds L (2 * k) (code_start entry.function args w t))
     (inputs_logged cover marks ir formed keeps whole entry.function transaction args w t k over) n
     count
@@ -160,4 +161,4 @@ compiled_run apart cover keep law marks ir formed keeps whole constants bare ima
     (words_end law ir constants k (code_start entry.function args w t) (words, tt, pool))
     (subst (λ (e : code.CodeEnd). RunMatches image L heap
     (deeds L (2 * k) (code_start entry.function args w t)) e
-    (mrun image (2 * k * most) heap tx args)) same kept))
+    (mrun image (2 * k * most image.parts.sizes) heap tx args)) same kept))

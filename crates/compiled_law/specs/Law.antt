@@ -10,6 +10,8 @@ use Rattle.c_types.specs.Fault.{breaks}
 use Rattle.c_types.specs.Shapes.{shapes_of}
 use Rattle.c_meaning.specs.Transaction.{Outcome}
 use Rattle.pool_map.specs.PoolFits.{words_of}
+use Rattle.pool_map.specs.Width as width
+use Rattle.pool_layout.specs.Sizes.{slot_words}
 use Rattle.pool_map.specs.PoolMap.{PoolMap}
 use Rattle.ir.specs.WellFormed.{IsWellFormed}
 use Rattle.lower.specs.Program.{lowered}
@@ -23,8 +25,8 @@ use Rattle.session_law.specs.Source.{ComesBy}
 use Rattle.session_law.specs.Agrees.{Agrees}
 
 -- What the compiler makes of a text: the tree of the tokens that its constants leave, which breaks
--- no rule, and the image of its code for a pool with the root's words. The code has its logs
--- exactly at the sites for which the walks call.
+-- no rule, and the image of its code for a pool with the root's words and slots of the structs'
+-- width. The code has its logs exactly at the sites for which the walks call.
 pub record IsCompiledFrom (text : List ℕ) (list : Tokens) (program : Program) : Type 0 where
   pub left : LeavesTokens text list
   pub spelled : SpellsProgram list.tokens (tree_of program.typed)
@@ -34,6 +36,7 @@ pub record IsCompiledFrom (text : List ℕ) (list : Tokens) (program : Program) 
   pub marks : MarkTable
   pub exact : IsExact (lowered program.typed).functions marks
   pub root : (sizes_of program).root_words ≡ words_of (shapes_of program.typed).root
+  pub width : slot_words (sizes_of program) ≡ width.slot_words (shapes_of program.typed).structs
   pub made : program.image.parts ≡ parts_of (logged_program marks (lowered program.typed))
       (sizes_of program) (length program.typed.lines)
 

@@ -1,6 +1,7 @@
 pub mod Moves
 pub mod Objects
 pub mod SameSizes
+pub mod Widths
 pub mod Shapes
 pub mod Places
 pub mod Reopening

@@ -120,7 +120,7 @@ module _ (former new : Program) (shapes : HasShapesOf former new)
       → objects_from z structs h 1 z.slots ≡ objects_from z old_structs h 1 z.slots
   same_objects h headers =
       ap (λ (ss : List StructShape). objects_from z ss h 1 z.slots) shapes.structs
-      ∙ objects_more old_structs shapes.more h z headers
+      ∙ objects_more z old_structs shapes.more h headers
 
   same_pool : (h : Words) → HasHeaders z (length old_structs) h
       → pool_in (shapes_of new.typed) z h ≡ pool_in (shapes_of former.typed) z h

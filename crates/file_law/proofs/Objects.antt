@@ -22,32 +22,32 @@ struct_more : (structs more : List StructShape) (kind : ℕ) → kind ≤ length
 struct_more structs more zero up_to = refl
 struct_more structs more (suc i) up_to = get_more structs more i (omega (arith, up_to))
 
-module _ (structs more : List StructShape) (h : Words) where
+module _ (s : Sizes) (structs more : List StructShape) (h : Words) where
   kind_more : (w kind : ℕ) → kind ≤ length structs
-      → object_of (structs ++ more) h w (kind_in (pos kind))
-      ≡ object_of structs h w (kind_in (pos kind))
+      → object_of s (structs ++ more) h w (kind_in (pos kind))
+      ≡ object_of s structs h w (kind_in (pos kind))
   kind_more w kind up_to = go (nat_lt kind 256)
     where
-      go : (b : Bool) → object_of (structs ++ more) h w (if b then Some kind else None)
-          ≡ object_of structs h w (if b then Some kind else None)
-      go true = ap (object_with h w kind) (struct_more structs more kind up_to)
+      go : (b : Bool) → object_of s (structs ++ more) h w (if b then Some kind else None)
+          ≡ object_of s structs h w (if b then Some kind else None)
+      go true = ap (object_with s h w kind) (struct_more structs more kind up_to)
       go false = refl
 
   object_more : (w : ℕ) → IsUpTo (length structs) (h w)
-      → object_in (structs ++ more) h w ≡ object_in structs h w
+      → object_in s (structs ++ more) h w ≡ object_in s structs h w
   object_more w header =
-      ap (λ (x : ℤ). object_of (structs ++ more) h w (kind_in x)) header.2
+      ap (λ (x : ℤ). object_of s (structs ++ more) h w (kind_in x)) header.2
       ∙ kind_more w header.0 header.1
-      ∙ sym (ap (λ (x : ℤ). object_of structs h w (kind_in x)) header.2)
+      ∙ sym (ap (λ (x : ℤ). object_of s structs h w (kind_in x)) header.2)
 
-  objects_in : (s : Sizes) (slot n : ℕ) → 1 ≤ slot → slot + n ≤ s.slots + 1
+  objects_in : (slot n : ℕ) → 1 ≤ slot → slot + n ≤ s.slots + 1
       → HasHeaders s (length structs) h
       → objects_from s (structs ++ more) h slot n ≡ objects_from s structs h slot n
-  objects_in s slot zero first last headers = refl
-  objects_in s slot (suc n) first last headers =
+  objects_in slot zero first last headers = refl
+  objects_in slot (suc n) first last headers =
       let head = object_more (slot_word s slot) (headers slot first (omega (arith, last))) in
-      λ i. head i ∷ objects_in s (suc slot) n (omega (arith, first)) (omega (arith, last)) headers i
+      λ i. head i ∷ objects_in (suc slot) n (omega (arith, first)) (omega (arith, last)) headers i
 
-  pub objects_more : (s : Sizes) → HasHeaders s (length structs) h
+  pub objects_more : HasHeaders s (length structs) h
       → objects_from s (structs ++ more) h 1 s.slots ≡ objects_from s structs h 1 s.slots
-  objects_more s headers = objects_in s 1 s.slots (omega arith) (omega arith) headers
+  objects_more headers = objects_in 1 s.slots (omega arith) (omega arith) headers

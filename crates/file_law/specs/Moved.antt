@@ -1,7 +1,7 @@
 -- A pool that is moved from its program's former text to the new one holds what it held: the same
 -- root, objects, number of transactions done and last value. Only its digest changes.
 use Rattle.std.specs.Prelude.{ℕ, ◌+◌, ◌-◌, ◌<◌, ◌≡◌, ◌++◌, ◌&&◌, ◌⊎◌, Bool, true, false}
-use Rattle.std.specs.Prelude.{List, length, None, ℤ, pos, if◌then◌else◌, nat_le, nat_lt}
+use Rattle.std.specs.Prelude.{List, [], length, None, ℤ, pos, if◌then◌else◌, nat_le, nat_lt}
 use Rattle.std.specs.Prelude.{slice_index_or}
 use Rattle.cache_model.specs.Cache.{Words}
 use Rattle.cache_model.specs.Image.{IsImage, Images}
@@ -12,6 +12,7 @@ use Rattle.file_pmem.specs.File.{FileLines}
 use Rattle.pool_layout.specs.declared.places.TheConstants.{MARK}
 use Rattle.pool_layout.specs.Image.{image_words, is_sealed}
 use Rattle.pool_map.specs.declared.shapes.StructShape.{StructShape}
+use Rattle.c_types.specs.Fault.{breaks}
 use Rattle.c_types.specs.Shapes.{shapes_of}
 use Rattle.cnvm_session.specs.declared.answer.Answer.{Answer}
 use Rattle.cnvm_session.specs.declared.mode.Mode.{Mode}
@@ -38,10 +39,12 @@ abbrev pub FormerShapesLaw : Type 0
 FormerShapesLaw =
     (former new : Program) → first_other former.typed new.typed ≡ None → HasShapesOf former new
 
--- Then both pools have the same sizes, if the same slots, records and ticks were asked for.
+-- Then both pools have the same sizes, if the new program breaks no rule and the same slots,
+-- records and ticks were asked for.
 abbrev pub SizesLaw : Type 0
 SizesLaw =
-    (former new : Program) → first_other former.typed new.typed ≡ None → Agrees former → Agrees new
+    (former new : Program) → first_other former.typed new.typed ≡ None → breaks new.typed ≡ []
+    → Agrees former → Agrees new
     → (sizes_of new).slots ≡ (sizes_of former).slots
     → (sizes_of new).records ≡ (sizes_of former).records
     → (sizes_of new).ticks ≡ (sizes_of former).ticks → sizes_of new ≡ sizes_of former

@@ -12,33 +12,40 @@ use Rattle.pool_layout.specs.declared.places.TheConstants.{FIRST_ARGUMENT, SEAL}
 use Rattle.pool_layout.specs.Places.{at, pool_of}
 use Rattle.pool_layout.specs.Limits.{IsWithin}
 use Rattle.pool_layout.specs.Good.{Pool}
+use Rattle.pool_map.specs.declared.limits.TheConstants.{RECORDS, ROOT_WORDS, SLOTS, TICKS}
 
 -- the sizes are within their limits
-pub small_slots : IsWithin 1 65535 1
+pub small_slots : IsWithin 1 SLOTS 1
 unfolding IsLe
-small_slots = (le_by_compare 1 1 tt, le_by_compare 1 65535 tt)
+small_slots = (le_by_compare 1 1 tt, le_by_compare 1 SLOTS tt)
 
-pub small_records : IsWithin 1 4096 2
+pub small_records : IsWithin 1 RECORDS 2
 unfolding IsLe
-small_records = (le_by_compare 1 2 tt, le_by_compare 2 4096 tt)
+small_records = (le_by_compare 1 2 tt, le_by_compare 2 RECORDS tt)
 
-pub small_root : IsWithin 1 512 1
+pub small_root : IsWithin 1 ROOT_WORDS 1
 unfolding IsLe
-small_root = (le_by_compare 1 1 tt, le_by_compare 1 512 tt)
+small_root = (le_by_compare 1 1 tt, le_by_compare 1 ROOT_WORDS tt)
 
-pub small_ticks : IsWithin 1 1000000 1
+pub small_slot : IsWithin 2 64 2
 unfolding IsLe
-small_ticks = (le_by_compare 1 1 tt, le_by_compare 1 1000000 tt)
+small_slot = (le_by_compare 2 2 tt, le_by_compare 2 64 tt)
+
+pub small_ticks : IsWithin 1 TICKS 1
+unfolding IsLe
+small_ticks = (le_by_compare 1 1 tt, le_by_compare 1 TICKS tt)
 
 abbrev pub small_sizes : Sizes
 small_sizes = record {
   slots = 1;
   records = 2;
   root_words = 1;
+  slot_lines = 2;
   ticks = 1;
   slots_fit = small_slots;
   records_fit = small_records;
   root_words_fit = small_root;
+  slot_fits = small_slot;
   ticks_fit = small_ticks;
 }
 

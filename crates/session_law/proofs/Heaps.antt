@@ -1,14 +1,16 @@
 -- Heaps with the same words hold the same pool, and what a heap holds fits the program's shapes.
-use Rattle.std.proofs.Common.{◌≡◌, ℕ, zero, suc, ◌+◌, ◌<◌, ◌≤◌, Bool, true, false, if◌then◌else◌}
-use Rattle.std.proofs.Common.{nat_lt, ltb, List, ◌∷◌, length, Option, Some, None, IsSomeAnd, IfSome}
+use Rattle.std.proofs.Common.{◌≡◌, ℕ, zero, suc, ◌+◌, ◌-◌, ◌*◌, ◌<◌, ◌≤◌, Bool, true, false}
+use Rattle.std.proofs.Common.{if◌then◌else◌, nat_le, nat_lt, leb, ltb, List, ◌∷◌, length, Option}
+use Rattle.std.proofs.Common.{Some, None, IsSomeAnd, IfSome}
 use Rattle.std.proofs.Common.{ℤ, pos, refl, sym, ap, ◌∙◌, subst, arith}
 use Rattle.std.specs.List.{AllByRecursion}
-use Rattle.std.proofs.lemmas.Bool.{ltb-false}
+use Rattle.std.proofs.lemmas.Bool.{leb-false, ltb-false}
 use Rattle.cache_model.specs.Cache.{Words, Cache, view}
 use Rattle.pool_layout.specs.declared.limits.Sizes.{Sizes}
 use Rattle.pool_layout.specs.declared.places.Place.TheVariants.{Heap}
 use Rattle.pool_layout.specs.Places as places
-use Rattle.pool_layout.specs.Sizes.{heap_words, slot_word}
+use Rattle.pool_layout.specs.Sizes.{heap_words, slot_words, slot_word}
+use Rattle.pool_layout.proofs.Slots.{slot_within}
 use Rattle.pool_map.specs.declared.object.Object.{Object}
 use Rattle.pool_map.specs.declared.shapes.StructShape.{StructShape}
 use Rattle.pool_map.specs.PoolFits.{words_of, struct_at, ObjectFits, PoolFits}
@@ -34,26 +36,29 @@ words_same h g top w (suc n) fits same =
 abbrev object : ℕ → List ℤ → Option Object
 object kind fields = Some (record { kind = kind; fields = fields })
 
-module _ (structs : List StructShape) (h g : Words) (top w : ℕ) (fits : w + 16 ≤ top)
-    (same : AreSame top h g) where
-  with_same : (kind : ℕ) (o : Option StructShape) → object_with h w kind o ≡ object_with g w kind o
+module _ (s : Sizes) (structs : List StructShape) (h g : Words) (top w : ℕ)
+    (fits : w + slot_words s ≤ top) (same : AreSame top h g) where
+  with_same : (kind : ℕ) (o : Option StructShape)
+      → object_with s h w kind o ≡ object_with s g w kind o
   with_same kind None = refl
-  with_same kind (Some shape) = go (nat_lt 15 (words_of shape.fields)) refl
+  with_same kind (Some shape) = go (nat_le (slot_words s) (words_of shape.fields)) refl
     where
-      go : (b : Bool) → ltb 15 (words_of shape.fields) ≡ b
+      go : (b : Bool) → leb (slot_words s) (words_of shape.fields) ≡ b
           → (if b then None else object kind (words_from h (w + 1) (words_of shape.fields)))
           ≡ (if b then None else object kind (words_from g (w + 1) (words_of shape.fields)))
       go true e = refl
       go false e =
-          let few : words_of shape.fields ≤ 15 = ltb-false 15 (words_of shape.fields) e in
+          let few : words_of shape.fields < slot_words s =
+          leb-false (slot_words s) (words_of shape.fields) e in
           ap (object kind) (words_same h g top (w + 1) (words_of shape.fields) (omega arith) same)
 
-  of_same : (o : Option ℕ) → object_of structs h w o ≡ object_of structs g w o
+  of_same : (o : Option ℕ) → object_of s structs h w o ≡ object_of s structs g w o
   of_same None = refl
   of_same (Some kind) = with_same kind (struct_at structs kind)
 
-  object_same : object_in structs h w ≡ object_in structs g w
-  object_same = ap (λ (x : ℤ). object_of structs h w (kind_in x)) (same w (omega arith))
+  object_same : object_in s structs h w ≡ object_in s structs g w
+  object_same = ap (λ (x : ℤ). object_of s structs h w (kind_in x))
+      (same w (omega (arith, s.slot_fits.0)))
       ∙ of_same (kind_in (g w))
 
 objects_same : (s : Sizes) (structs : List StructShape) (h g : Words) (slot n : ℕ) → 1 ≤ slot
@@ -61,7 +66,10 @@ objects_same : (s : Sizes) (structs : List StructShape) (h g : Words) (slot n : 
     → objects_from s structs h slot n ≡ objects_from s structs g slot n
 objects_same s structs h g slot zero first last same = refl
 objects_same s structs h g slot (suc n) first last same =
-    let head = object_same structs h g (heap_words s) (slot_word s slot) (omega arith) same in
+    let within : slot_words s * (slot - 1) + slot_words s ≤ slot_words s * s.slots =
+    slot_within (slot_words s) s.slots slot first (omega (arith, last)) in
+    let head = object_same s structs h g (heap_words s) (slot_word s slot)
+    (omega (arith, within)) same in
     λ i. head i ∷ objects_same s structs h g (suc slot) n (omega arith) (omega arith) same i
 
 pub pool_same : (program : Program) (h g : Words) → AreSame (heap_words (sizes_of program)) h g
@@ -77,7 +85,14 @@ pub headers_same : (program : Program) (h g : Words) → AreSame (heap_words (si
     → HasSourceHeaders program h → HasSourceHeaders program g
 headers_same program h g same headers slot first last =
     let header = headers slot first last in
-    (header.0, header.1, sym (same (slot_word (sizes_of program) slot) (omega arith)) ∙ header.2)
+    let s : Sizes = sizes_of program in
+    let within : slot_words s * (slot - 1) + slot_words s ≤ slot_words s * s.slots =
+    slot_within (slot_words s) s.slots slot first last in (
+      header.0,
+      header.1,
+      sym (same (slot_word s slot) (omega (arith, within, s.slot_fits.0)))
+          ∙ header.2,
+    )
 
 -- `show` reads the heap of the view
 pub shown_same : (s : Sizes) (c : Cache) → AreSame (heap_words s) (heap_of s (view c)) (heap_in s c)
@@ -93,11 +108,11 @@ pub length_words : (h : Words) (w n : ℕ) → length (words_from h w n) ≡ n
 length_words h w zero = refl
 length_words h w (suc n) = ap suc (length_words h (suc w) n)
 
-module _ (structs : List StructShape) (h : Words) where
+module _ (s : Sizes) (structs : List StructShape) (h : Words) where
   with_fits : (w kind : ℕ) (o : Option StructShape) → struct_at structs kind ≡ o
-      → IfSome (object_with h w kind o) (ObjectFits structs)
+      → IfSome (object_with s h w kind o) (ObjectFits structs)
   with_fits w kind None is = tt
-  with_fits w kind (Some shape) is = go (nat_lt 15 (words_of shape.fields))
+  with_fits w kind (Some shape) is = go (nat_le (slot_words s) (words_of shape.fields))
     where
       go : (b : Bool) → IfSome (if b then None
           else object kind (words_from h (w + 1) (words_of shape.fields))) (ObjectFits structs)
@@ -108,22 +123,22 @@ module _ (structs : List StructShape) (h : Words) where
           ≡ words_of x.fields)) (sym is)
           (length_words h (w + 1) (words_of shape.fields))
 
-  of_fits : (w : ℕ) (o : Option ℕ) → IfSome (object_of structs h w o) (ObjectFits structs)
+  of_fits : (w : ℕ) (o : Option ℕ) → IfSome (object_of s structs h w o) (ObjectFits structs)
   of_fits w None = tt
   of_fits w (Some kind) = with_fits w kind (struct_at structs kind) refl
 
-  objects_fit : (s : Sizes) (slot n : ℕ)
+  objects_fit : (slot n : ℕ)
       → AllByRecursion (λ (o : Option Object). IfSome o (ObjectFits structs))
       (objects_from s structs h slot n)
-  objects_fit s slot zero = tt
-  objects_fit s slot (suc n) = (
+  objects_fit slot zero = tt
+  objects_fit slot (suc n) = (
     of_fits (slot_word s slot) (kind_in (h (slot_word s slot))),
-    objects_fit s (suc slot) n,
+    objects_fit (suc slot) n,
   )
 
 pub pool_fits : (program : Program) (h : Words) → words_of (shapes_of program.typed).root
     ≡ (sizes_of program).root_words → PoolFits (shapes_of program.typed) (source_pool program h)
 pool_fits program h root = (
   length_words h 0 (sizes_of program).root_words ∙ sym root,
-  objects_fit (shapes_of program.typed).structs h (sizes_of program) 1 (sizes_of program).slots,
+  objects_fit (sizes_of program) (shapes_of program.typed).structs h 1 (sizes_of program).slots,
 )

@@ -98,7 +98,7 @@ look_records C g end (Fences ∷ es) looks =
     ap (begun (Fences ∷ [])) (look_records C g end es looks.1)
 look_records C g end (Quiet ∷ es) looks =
     ap (begun (Quiet ∷ [])) (look_records C g end es looks.1)
-look_records C g end (Scans w m ∷ es) looks = let no = looks.0 in absurd cc
+look_records C g end (Scans w apart m ∷ es) looks = let no = looks.0 in absurd cc
 look_records C g end (Stores w x ∷ es) looks = let no = looks.0 in absurd cc
 look_records C g end (Logs w ∷ es) looks = let no = looks.0 in absurd cc
 look_records C g end (Flushes l ∷ es) looks = let no = looks.0 in absurd cc
@@ -116,7 +116,7 @@ look_steps (Fences ∷ es) looks =
 look_steps (Quiet ∷ es) looks =
     let rest = look_steps es looks.1 in
     let same = rest.0 in (omega (arith, same), rest.1)
-look_steps (Scans w m ∷ es) looks = let no = looks.0 in absurd cc
+look_steps (Scans w apart m ∷ es) looks = let no = looks.0 in absurd cc
 look_steps (Stores w x ∷ es) looks = let no = looks.0 in absurd cc
 look_steps (Logs w ∷ es) looks = let no = looks.0 in absurd cc
 look_steps (Flushes l ∷ es) looks = let no = looks.0 in absurd cc

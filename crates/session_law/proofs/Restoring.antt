@@ -51,7 +51,7 @@ not_next x n is more =
 stores_or_not : (es : List Effect) (u : ℕ) → (IsOverwritten es u → ⊥) ⊎ IsOverwritten es u
 stores_or_not [] u = inl (λ over. over)
 stores_or_not (Loads w ∷ es) u = stores_or_not es u
-stores_or_not (Scans w many ∷ es) u = stores_or_not es u
+stores_or_not (Scans w apart many ∷ es) u = stores_or_not es u
 stores_or_not (Stores w x ∷ es) u =
     ⊎_elim (λ same. inr (inl same))
     (λ other. ⊎_elim (λ none. inl (λ over. ⊎_elim other none over)) (λ later. inr (inr later))

@@ -1,7 +1,7 @@
 -- Pools and arguments are made of words: a new pool's, those of a heap whose numbers are words, and
 -- those of an image's record.
 use Rattle.std.proofs.Common.{ℕ, zero, suc, ◌+◌, ◌-◌, Bool, true, false, cond, if◌then◌else◌}
-use Rattle.std.proofs.Common.{nat_lt, List, replicate, slice_index_or, slice_get, Option, Some}
+use Rattle.std.proofs.Common.{nat_le, List, replicate, slice_index_or, slice_get, Option, Some}
 use Rattle.std.proofs.Common.{None, ℤ, pos, int_eq, sym, subst, arith}
 use Rattle.std.proofs.lemmas.Int.{ints}
 use Rattle.nvm_base.specs.Wrap.{IsWord}
@@ -10,7 +10,7 @@ use Rattle.pool_layout.specs.declared.limits.Sizes.{Sizes}
 use Rattle.pool_layout.specs.declared.places.Layout.{Layout}
 use Rattle.pool_layout.specs.declared.places.Place.TheVariants.{RecordWord, RecordOld, Heap}
 use Rattle.pool_layout.specs.Places.{at}
-use Rattle.pool_layout.specs.Sizes.{slot_word}
+use Rattle.pool_layout.specs.Sizes.{slot_words, slot_word}
 use Rattle.pool_layout.specs.Log.{count}
 use Rattle.pool_layout.specs.Restored.{undo, undone, restored}
 use Rattle.pool_map.specs.declared.object.Object.{Object}
@@ -80,9 +80,10 @@ module _ (h : Words) (are : AreAll h) where
   list_words w (suc n) zero = are w
   list_words w (suc n) (suc i) = list_words (suc w) n i
 
-  with_words : (w kind : ℕ) (o : Option StructShape) → OfWords (object_with h w kind o)
-  with_words w kind None i = zero_word
-  with_words w kind (Some shape) i = go (nat_lt 15 (words_of shape.fields))
+  with_words : (s : Sizes) (w kind : ℕ) (o : Option StructShape)
+      → OfWords (object_with s h w kind o)
+  with_words s w kind None i = zero_word
+  with_words s w kind (Some shape) i = go (nat_le (slot_words s) (words_of shape.fields))
     where
       go : (b : Bool) → IsWord (field_of (if b then None
           else Some (record { kind = kind; fields = words_from h (w + 1) (words_of shape.fields) }))
@@ -90,15 +91,16 @@ module _ (h : Words) (are : AreAll h) where
       go true = zero_word
       go false = list_words (w + 1) (words_of shape.fields) i
 
-  of_words : (structs : List StructShape) (w : ℕ) (o : Option ℕ) → OfWords (object_of structs h w o)
-  of_words structs w None i = zero_word
-  of_words structs w (Some kind) i = with_words w kind (struct_at structs kind) i
+  of_words : (s : Sizes) (structs : List StructShape) (w : ℕ) (o : Option ℕ)
+      → OfWords (object_of s structs h w o)
+  of_words s structs w None i = zero_word
+  of_words s structs w (Some kind) i = with_words s w kind (struct_at structs kind) i
 
   objects_words : (s : Sizes) (structs : List StructShape) (slot n : ℕ)
       → AreOfWords (objects_from s structs h slot n)
   objects_words s structs slot zero j i = zero_word
   objects_words s structs slot (suc n) zero i =
-      of_words structs (slot_word s slot) (kind_in (h (slot_word s slot))) i
+      of_words s structs (slot_word s slot) (kind_in (h (slot_word s slot))) i
   objects_words s structs slot (suc n) (suc j) i = objects_words s structs (suc slot) n j i
 
 pub pool_words : (program : Program) (h : Words) → AreAll h → HasPoolWords (source_pool program h)

@@ -4,6 +4,8 @@
 use Rattle.std.specs.Prelude.{ℕ, ◌^◌, ◌<◌, ◌≤◌, ◌≡◌, List, Bool, true, length, Some, ℤ}
 use Rattle.cache_model.specs.Cache.{Words}
 use Rattle.pool_map.specs.PoolFits.{words_of}
+use Rattle.pool_map.specs.Width as width
+use Rattle.pool_layout.specs.Sizes.{slot_words}
 use Rattle.c_types.specs.Shapes.{shapes_of}
 use Rattle.c_meaning.specs.Transaction.{Outcome, Done, Trap}
 use Rattle.pm_machine.specs.declared.effect.Effect.{Effect}
@@ -45,11 +47,13 @@ pub record RunsAs (program : Program) (h : Words) (tx : ℕ) (args : List ℤ) :
       (takes (blank (policy_of marked)) effects)
   pub looks : looks_of program tx ≡ true → AreLooks effects
 
--- The root has as many words as the source's root struct. The image has the transactions of the
--- source, each with as many parameters. A transaction's number is below 2^63 and it has at most 22
--- parameters, as the front end and the pool's argument record require.
+-- The root has as many words as the source's root struct, and a slot has the width of the source's
+-- structs. The image has the transactions of the source, each with as many parameters. A
+-- transaction's number is below 2^63 and it has at most 22 parameters, as the front end and the
+-- pool's argument record require.
 pub record Agrees (program : Program) : Type 0 where
   pub root : words_of (shapes_of program.typed).root ≡ (sizes_of program).root_words
+  pub width : slot_words (sizes_of program) ≡ width.slot_words (shapes_of program.typed).structs
   pub parameters : (tx : ℕ) → tx_parameters program.image tx ≡ source_parameters program tx
   pub few : (tx n : ℕ) → tx_parameters program.image tx ≡ Some n → (tx < 2 ^ 63) × (n ≤ 22)
   pub runs : (h : Words) (tx : ℕ) (args : List ℤ) → HasSourceHeaders program h

@@ -71,7 +71,7 @@ fn power_on<P: Pmem>(alloc: Global, dev: &mut P)
 pub fn words_on<P: PmemWork>(alloc: Global, lines: u64, dev: &P) -> Result<Words, AllocError>
     requires on { (P.device dev.now).on ≡ true }
     requires lines { (P.device dev.now).lines ≡ lines }
-    requires small { lines ≤ 2 ^ 22 }
+    requires small { lines ≤ 2 ^ 30 }
     ensures { IfOk result (λ words. words ≡ words_from (view (P.device dev.now).cache) 0
         (8 * (P.device dev.now).lines)) }
 {

@@ -37,7 +37,7 @@ use Rattle.recovery.specs.Due.{due_clean, due_back, due_redo, due_reset}
 -- a step has at most five events: those of a record
 step_few : (s : Sizes) (a n : ℕ) (heap : Words) (e : Effect) → length (events_of s a n heap e) ≤ 5
 step_few s a n heap (effect.Loads w) = omega arith
-step_few s a n heap (effect.Scans w m) = omega arith
+step_few s a n heap (effect.Scans w apart m) = omega arith
 step_few s a n heap (effect.Stores w x) = omega arith
 step_few s a n heap (effect.Logs w) = omega arith
 step_few s a n heap (effect.Flushes l) = omega arith

@@ -36,7 +36,7 @@ pub fn crew_lines(program: &Program, count: u32) -> u64
     requires last { count ≤ 8 }
     ensures value { result ≡ sizes_of.pool_lines program.now.image.parts.sizes * count }
     ensures least { 6 ≤ result }
-    ensures small { result ≤ 2 ^ 22 }
+    ensures small { result ≤ 2 ^ 30 }
 {
     pool_lines(program.image.sizes()) * u64::from(count)
 }

@@ -103,7 +103,7 @@ fn answer_workers<K: Sink, P: Pmem + Drop, L: Ledger>(
     Ok(())
 }
 
-/// Notes the first traps of these lines.
+/// Notes the first traps of these lines, and the first refused pick.
 pub(crate) fn note_traps(traps: &mut Traps, lines: &[WorkersLine], session: &WorkersSession) {
     for line in lines {
         match line {
@@ -117,6 +117,7 @@ pub(crate) fn note_traps(traps: &mut Traps, lines: &[WorkersLine], session: &Wor
                 worker,
                 answer: Answer::Aborted(kind) | Answer::RecoveredAborted(kind),
             } => traps.undoes(*kind, session.stop(*worker)),
+            WorkersLine::Plain(Answer::RefusedPick(_)) => traps.refuses(session.pick_fault()),
             _ => (),
         }
     }

@@ -28,7 +28,7 @@ ghost use Rattle.workers_session.specs.inside.Turning.{Extends, turns_in, busy_o
 use crate::line::{WorkersLine, WorkersLines, add, no_line, one};
 use crate::looking::{last_of, owed_in, standing_of, text_of};
 use crate::outcome::{begin_line, begin_runs_out, ends_power, is_interrupted, keeps_down};
-use cache_model::Choice;
+use cache_model::{Choice, PickFault};
 use cnvm_session::{
     Answer, Program, answer_of_recovery, first_fallen, is_unsigned, looks, parameters, policy_of,
     rolls_back,
@@ -48,6 +48,7 @@ use workers_script::WorkersCommand;
 pub struct WorkersSession {
     workers: Workers,
     down: bool,
+    pick_fault: Option<PickFault>,
 }
 
 impl Model for WorkersSession {
@@ -83,6 +84,7 @@ pub fn create_workers<P: Pmem>(
         Ok(workers) => Ok(WorkersSession {
             workers,
             down: false,
+            pick_fault: None,
         }),
         Err(fault) => Err(fault),
     }
@@ -99,6 +101,7 @@ pub fn idle_workers(alloc: Global, count: u32) -> Result<WorkersSession, AllocEr
     Ok(WorkersSession {
         workers,
         down: true,
+        pick_fault: None,
     })
 }
 
@@ -106,6 +109,11 @@ impl WorkersSession {
     /// Where the machine of a worker did its last instruction: after a trap, where that came.
     pub fn stop(&self, worker: u32) -> Option<Stop> {
         self.workers.stop(worker)
+    }
+
+    /// After a line that refuses a pick: why.
+    pub fn pick_fault(&self) -> Option<PickFault> {
+        self.pick_fault
     }
 
     /// Opens the pools in the compartments of a device: each is recovered, from 0 on, as after a
@@ -547,10 +555,14 @@ impl WorkersSession {
         ensures sound { IsReadyFor program.now.image self.new (P.device dev.new) }
     {
         if let Some(line) = first_fallen(choice.picks.as_slice()) {
+            self.pick_fault = Some(PickFault::Falling);
             return one(alloc, WorkersLine::Plain(Answer::RefusedPick(line)));
         }
         match dev.power(choice) {
-            Err(pick) => one(alloc, WorkersLine::Plain(Answer::RefusedPick(pick.line))),
+            Err(pick) => {
+                self.pick_fault = Some(PickFault::Missing(pick));
+                one(alloc, WorkersLine::Plain(Answer::RefusedPick(pick.line)))
+            }
             Ok(()) => self.recover_all(program, no_line(alloc), dev, steps),
         }
     }

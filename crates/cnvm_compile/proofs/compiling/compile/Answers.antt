@@ -4,7 +4,7 @@ use Rattle.c_types.specs.Shapes.{shapes_of}
 use Rattle.lower.specs.Program.{lowered}
 use Rattle.cnvm_compile.specs.FrontEnd.{AcceptsText, IsOnlyTreeOf}
 use Rattle.cnvm_compile.specs.Made.{image_of}
-use Rattle.cnvm_compile.specs.SizesAsked.{HasRoot, HasSizes}
+use Rattle.cnvm_compile.specs.SizesAsked.{HasWidth, HasRoot, HasSizes}
 use Rattle.cnvm_compile.proofs.Agreeing.{agreed}
 use Rattle.cnvm_compile.proofs.compiling.compile.Goals as goal
 use Rattle.cnvm_session.specs.Pool.{sizes_of}
@@ -20,6 +20,7 @@ returns-in-Ok-clause-compiled c =
     let only : IsOnlyTreeOf c.args.text.now p.typed = search rules in
     let is : ir ≡ lowered p.typed = search rules in
     let root : HasRoot (shapes_of p.typed) (sizes_of p) = search rules in
+    let width : HasWidth (shapes_of p.typed) (sizes_of p) = search rules in
     let code : p.image.parts ≡ image_of marks ir (sizes_of p) (length p.typed.lines) =
     search rules in
     let sizes : HasSizes asked.slots asked.records asked.ticks (sizes_of p) = search rules in
@@ -32,7 +33,8 @@ returns-in-Ok-clause-compiled c =
       code = code;
       sizes = sizes;
       root = root;
+      width = width;
       digest = digest;
       agrees = agreed c.args.text.now marks p ir accepted is made.marks made.well_formed root
-          code;
+          width code;
     }

@@ -4,6 +4,6 @@ use Rattle.cnvm_session.proofs.showing.few_words.Given as goal
 
 abbrev pub invariant-loop-field : goal.invariant-loop-field
 invariant-loop-field l = record {
-  few : l.all ≤ 15;
+  few : l.all ≤ l.most;
   left : l.all + words_of (drop l.field-index l.fields) ≡ words_of l.fields;
 }

@@ -19,7 +19,7 @@ loop-k-preserved g c =
       slots = λ on. objects_more s structs h (1 + k) (1 + (k + 1)) (s.slots - k) (s.slots - (k + 1))
           (omega arith) (omega arith)
           c.loop-k.pool.slots c.push_slot.new.self.slots _ c.in_ok-object.object
-          (c.in_ok-object.ensures on ∙ ap (object_in structs h)
+          (c.in_ok-object.ensures on ∙ ap (object_in s structs h)
           (c.slot_word.ensures ∙ ap (slot_word s) (omega arith)))
           (ap (λ (p : PoolMap). p.slots) ok) (c.loop-k.invariant.slots on);
     }

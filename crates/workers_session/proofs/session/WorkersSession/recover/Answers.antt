@@ -1,6 +1,7 @@
 use Rattle.std.proofs.Common.{◌≡◌, ◌∙◌, Bool, true, if◌then◌else◌, [], ◌∷◌, sym, ap, subst}
 use Rattle.pmem.specs.Device.{Device}
 use Rattle.pool_workers.specs.Crew.{compartment}
+use Rattle.pool_workers.proofs.Rooms.{compartment_within}
 use Rattle.cnvm_session.specs.declared.answer.Answer.{Answer}
 use Rattle.cnvm_session.specs.Outcomes.{answer_of_recovery}
 use Rattle.workers_session.specs.declared.line.WorkersLine.TheVariants.{Own}
@@ -11,6 +12,11 @@ use Rattle.workers_session.proofs.Onward.{recovered_on}
 use Rattle.workers_session.proofs.Recovering.{down_before, down_by, ends_down, recovers_one}
 use Rattle.workers_session.proofs.session.WorkersSession.recover.Goals.{then-self, else-self}
 use Rattle.workers_session.proofs.session.WorkersSession.recover.Goals as goal
+
+pub owed_in-marked-requires-clause-inside : goal.owed_in-marked-requires-clause-inside
+owed_in-marked-requires-clause-inside g c =
+    compartment_within c.args.program.now.image.parts.sizes c.args.worker _
+    (g.P.PmemWork.device c.args.dev.now).lines c.requires.worker c.requires.lines
 
 pub returns-clause-on : goal.returns-clause-on
 returns-clause-on g c =

@@ -1,5 +1,6 @@
-use Rattle.std.proofs.Common.{◌≡◌, ◌∙◌, ◌++◌, ◌-◌, ◌<◌, ◌∷◌, [], sym, length, arith}
-use Rattle.workers_session.specs.WorkersCommands.{scene_of, recovered_line}
+use Rattle.std.proofs.Common.{◌≡◌, ◌∙◌, ◌++◌, ◌-◌, ◌<◌, ◌∷◌, [], ℕ, refl, sym, subst, length, arith}
+use Rattle.std.proofs.Math.Nat.{sub-zero}
+use Rattle.workers_session.specs.WorkersCommands.{scene_of, recovered_line, RecoversFrom}
 use Rattle.workers_session.proofs.Crews.{idle_more}
 use Rattle.workers_session.proofs.Extending.{extends_more, extends_nothing}
 use Rattle.workers_session.proofs.Turnings.{back_next, back_over, back_end}
@@ -26,6 +27,22 @@ returns-then-ends-clause-does g c =
       back_over c.args.program.now i all all x z m lines r.0 less c.loop-worker.invariant.leads r.1
           (sym r.3 ∙ c.if-ends.true),
     )
+
+pub loop-worker-init : goal.loop-worker-init
+loop-worker-init g c =
+    let all = length c.args.self.now.tasks in
+    let x = scene_of c.args.self.now (g.P.PmemWork.device c.args.dev.now) c.args.steps.now in
+    record {
+      tasks = c.requires.tasks;
+      devices = c.requires.lines;
+      count = refl;
+      on = c.requires.on;
+      idle = λ j less. absurd (omega (arith, less));
+      lines = [];
+      told = extends_nothing c.args.told;
+      leads = λ rest y is.
+          subst (λ (n : ℕ). RecoversFrom c.args.program.now 0 n x rest y) (sub-zero all) is;
+    }
 
 pub loop-worker-preserved : goal.loop-worker-preserved
 loop-worker-preserved g c =

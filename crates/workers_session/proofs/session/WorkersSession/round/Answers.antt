@@ -1,7 +1,8 @@
 use Rattle.std.proofs.Common.{◌≡◌, ◌∙◌, ◌++◌, ◌+◌, ◌-◌, ◌≤◌, ◌<◌, List, [], ℕ, ap, sym, subst}
-use Rattle.std.proofs.Common.{length, arith}
+use Rattle.std.proofs.Common.{refl, length, arith}
+use Rattle.std.proofs.Math.Nat.{sub-zero}
 use Rattle.workers_session.specs.WorkersState.{WorkersState}
-use Rattle.workers_session.specs.WorkersCommands.{scene_of, round_from}
+use Rattle.workers_session.specs.WorkersCommands.{scene_of, round_from, TurnList}
 use Rattle.workers_session.proofs.Extending.{extends_more, extends_nothing}
 use Rattle.workers_session.proofs.Rounds.{busy_more}
 use Rattle.workers_session.proofs.Turnings.{LeadsOn, leads_next, leads_over, leads_end, round_next}
@@ -30,6 +31,23 @@ returns-then-self-clause-does g c =
           (round_next i all less) c.loop-worker.invariant.leads) does.2
           (sym (ap (λ (s : WorkersState). s.down) c.self.view_is) ∙ c.if-self.true),
     )
+
+pub loop-worker-init : goal.loop-worker-init
+loop-worker-init g c =
+    let all = length c.args.self.now.tasks in
+    let x = scene_of c.args.self.now (g.P.PmemWork.device c.args.dev.now) c.args.steps.now in
+    record {
+      sound = c.requires.sound;
+      up = c.requires.up;
+      count = refl;
+      rest = λ j low. refl;
+      fewer = omega arith;
+      lines = [];
+      told = extends_nothing c.args.told;
+      leads = λ rest y is.
+          subst (λ (n : ℕ). TurnList c.args.program.now (round_from 0 n) x rest y) (sub-zero all)
+          is;
+    }
 
 pub loop-worker-preserved : goal.loop-worker-preserved
 loop-worker-preserved g c =
