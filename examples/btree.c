@@ -1,27 +1,18 @@
 // An ordered map of keys to values: the B-tree of PMDK's examples (tree_map/btree_map.c), whose
-// nodes have up to 8 children. An object has at most 15 words, so a node is two of them: the keys,
-// and what stands beside the keys.
+// nodes have up to 8 children.
 enum { ORDER = 8, KEYS = ORDER - 1, HALF = ORDER / 2, LEAST = HALF - 1 };
 
-struct Node { int64_t n, key[KEYS]; struct Rest *rest; };
-struct Rest { int64_t value[KEYS]; struct Node *slot[ORDER]; };
+struct Node { int64_t n, key[KEYS], value[KEYS]; struct Node *slot[ORDER]; };
 struct Map { struct Node *top; int64_t size; };
 persistent struct Map root;
 
 struct Node *make() {
     struct Node *node = pm_new(struct Node);
     if (node == NULL) { abort(); }
-    node->rest = pm_new(struct Rest);
-    if (node->rest == NULL) { abort(); }
     return node;
 }
 
-void drop(struct Node *node) {
-    pm_free(node->rest);
-    pm_free(node);
-}
-
-struct Node *child(struct Node *node, int64_t i) { return node->rest->slot[i]; }
+struct Node *child(struct Node *node, int64_t i) { return node->slot[i]; }
 
 // The place of the first key of a node that isn't less than the key.
 int64_t place_of(struct Node *node, int64_t key) {
@@ -34,22 +25,20 @@ int64_t holds(struct Node *of, int64_t i, int64_t key) { return i < of->n && of-
 
 // Puts a key and its value at a place of a node that isn't full.
 void put_at(struct Node *node, int64_t p, int64_t key, int64_t value) {
-    struct Rest *rest = node->rest;
     for (int64_t i = node->n; i > p; i--) {
         node->key[i] = node->key[i - 1];
-        rest->value[i] = rest->value[i - 1];
+        node->value[i] = node->value[i - 1];
     }
     node->key[p] = key;
-    rest->value[p] = value;
+    node->value[p] = value;
     node->n += 1;
 }
 
 // Takes the key at a place out of a node.
 void take_at(struct Node *node, int64_t p) {
-    struct Rest *rest = node->rest;
     for (int64_t i = p; i < node->n - 1; i++) {
         node->key[i] = node->key[i + 1];
-        rest->value[i] = rest->value[i + 1];
+        node->value[i] = node->value[i + 1];
     }
     node->n -= 1;
 }
@@ -60,17 +49,17 @@ void split(struct Node *parent, int64_t p) {
     struct Node *right = make();
     for (int64_t i = HALF; i < KEYS; i++) {
         right->key[i - HALF] = left->key[i];
-        right->rest->value[i - HALF] = left->rest->value[i];
+        right->value[i - HALF] = left->value[i];
     }
     for (int64_t i = HALF; i < ORDER; i++) {
-        right->rest->slot[i - HALF] = child(left, i);
-        left->rest->slot[i] = NULL;
+        right->slot[i - HALF] = child(left, i);
+        left->slot[i] = NULL;
     }
     right->n = KEYS - HALF;
     left->n = HALF - 1;
-    for (int64_t i = parent->n; i > p; i--) { parent->rest->slot[i + 1] = child(parent, i); }
-    parent->rest->slot[p + 1] = right;
-    put_at(parent, p, left->key[HALF - 1], left->rest->value[HALF - 1]);
+    for (int64_t i = parent->n; i > p; i--) { parent->slot[i + 1] = child(parent, i); }
+    parent->slot[p + 1] = right;
+    put_at(parent, p, left->key[HALF - 1], left->value[HALF - 1]);
 }
 
 void insert(struct Node *node, int64_t key, int64_t value) {
@@ -100,13 +89,13 @@ struct Node *found(struct Node *node, int64_t key) {
 int64_t enter(int64_t key, int64_t value) {
     struct Node *old = found(root.top, key);
     if (old != NULL) {
-        old->rest->value[place_of(old, key)] = value;
+        old->value[place_of(old, key)] = value;
         return 0;
     }
     if (root.top == NULL) { root.top = make(); }
     if (root.top->n == KEYS) {
         struct Node *up = make();
-        up->rest->slot[0] = root.top;
+        up->slot[0] = root.top;
         split(up, 0);
         root.top = up;
     }
@@ -127,19 +116,19 @@ tx abort int64_t fill(int64_t key, int64_t step, int64_t n) {
 tx const int64_t get(int64_t key) {
     struct Node *node = found(root.top, key);
     if (node == NULL) { return -1; }
-    return node->rest->value[place_of(node, key)];
+    return node->value[place_of(node, key)];
 }
 
 // Moves the first key of the child after place p to the one before it.
 void turn_left(struct Node *parent, int64_t p) {
     struct Node *left = child(parent, p);
     struct Node *right = child(parent, p + 1);
-    put_at(left, left->n, parent->key[p], parent->rest->value[p]);
-    left->rest->slot[left->n] = child(right, 0);
+    put_at(left, left->n, parent->key[p], parent->value[p]);
+    left->slot[left->n] = child(right, 0);
     parent->key[p] = right->key[0];
-    parent->rest->value[p] = right->rest->value[0];
-    for (int64_t i = 0; i < right->n; i++) { right->rest->slot[i] = child(right, i + 1); }
-    right->rest->slot[right->n] = NULL;
+    parent->value[p] = right->value[0];
+    for (int64_t i = 0; i < right->n; i++) { right->slot[i] = child(right, i + 1); }
+    right->slot[right->n] = NULL;
     take_at(right, 0);
 }
 
@@ -147,12 +136,12 @@ void turn_left(struct Node *parent, int64_t p) {
 void turn_right(struct Node *parent, int64_t p) {
     struct Node *left = child(parent, p);
     struct Node *right = child(parent, p + 1);
-    put_at(right, 0, parent->key[p], parent->rest->value[p]);
-    for (int64_t i = right->n; i > 0; i--) { right->rest->slot[i] = child(right, i - 1); }
-    right->rest->slot[0] = child(left, left->n);
-    left->rest->slot[left->n] = NULL;
+    put_at(right, 0, parent->key[p], parent->value[p]);
+    for (int64_t i = right->n; i > 0; i--) { right->slot[i] = child(right, i - 1); }
+    right->slot[0] = child(left, left->n);
+    left->slot[left->n] = NULL;
     parent->key[p] = left->key[left->n - 1];
-    parent->rest->value[p] = left->rest->value[left->n - 1];
+    parent->value[p] = left->value[left->n - 1];
     take_at(left, left->n - 1);
 }
 
@@ -160,15 +149,15 @@ void turn_right(struct Node *parent, int64_t p) {
 void merge(struct Node *parent, int64_t p) {
     struct Node *left = child(parent, p);
     struct Node *right = child(parent, p + 1);
-    put_at(left, left->n, parent->key[p], parent->rest->value[p]);
-    for (int64_t i = 0; i <= right->n; i++) { left->rest->slot[left->n + i] = child(right, i); }
+    put_at(left, left->n, parent->key[p], parent->value[p]);
+    for (int64_t i = 0; i <= right->n; i++) { left->slot[left->n + i] = child(right, i); }
     for (int64_t i = 0; i < right->n; i++) {
-        put_at(left, left->n, right->key[i], right->rest->value[i]);
+        put_at(left, left->n, right->key[i], right->value[i]);
     }
     take_at(parent, p);
-    for (int64_t i = p + 1; i <= parent->n; i++) { parent->rest->slot[i] = child(parent, i + 1); }
-    parent->rest->slot[parent->n + 1] = NULL;
-    drop(right);
+    for (int64_t i = p + 1; i <= parent->n; i++) { parent->slot[i] = child(parent, i + 1); }
+    parent->slot[parent->n + 1] = NULL;
+    pm_free(right);
 }
 
 // Gives the child at place p a key more if it has too few.
@@ -201,10 +190,10 @@ void erase(struct Node *node, int64_t key) {
     struct Node *low = child(node, i + 1);
     while (child(low, 0) != NULL) { low = child(low, 0); }
     int64_t next = low->key[0];
-    int64_t value = low->rest->value[0];
+    int64_t value = low->value[0];
     erase(child(node, i + 1), next);
     node->key[i] = next;
-    node->rest->value[i] = value;
+    node->value[i] = value;
     mend(node, i + 1);
 }
 
@@ -216,7 +205,7 @@ tx abort int64_t del(int64_t key) {
     root.size -= 1;
     if (top->n == 0) {
         root.top = child(top, 0);
-        drop(top);
+        pm_free(top);
     }
     return 1;
 }
