@@ -3,7 +3,7 @@
 
 ghost use Rattle.std.specs.Prelude.{◌≡◌, ◌<◌};
 
-use code_check::is_well_formed;
+use crate::well_formed::is_well_formed;
 use codegen::emit;
 use ir::{Instruction, Instructions, Ir, IrFunction, IrFunctions, Target};
 use nvm_base::{BinOp, Registers, Steps, Text};

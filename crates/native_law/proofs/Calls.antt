@@ -9,9 +9,9 @@ use Rattle.pm_machine.specs.declared.op.TxEntry.{TxEntry}
 use Rattle.pm_machine.specs.Transactions.{entry_function}
 use Rattle.codegen.specs.Emit.{txs_from}
 use Rattle.machine_law.proofs.matching.Compiled.{function_is, made_here}
-use Rattle.step_law.specs.Law.{CanBegin}
-use Rattle.step_law.proofs.Runs.{run_law}
-use Rattle.step_law.proofs.Events.{events_law}
+use Rattle.native_law.specs.Printed.{CanBegin}
+use Rattle.native_law.proofs.Runs.{run_law}
+use Rattle.native_law.proofs.Events.{events_law}
 use Rattle.native_law.specs.Law.{IsCompiledCall, CompiledRunLaw, CompiledEventsLaw}
 use Rattle.native_law.proofs.Printable.{printable}
 

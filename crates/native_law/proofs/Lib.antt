@@ -1,3 +1,13 @@
+pub mod Tests
+pub mod Words
+pub mod Registers
+pub mod Checks
+pub mod Frames
+pub mod Searches
+pub mod Steps
+pub mod Fetched
+pub mod Runs
+pub mod Events
 pub mod Fits
 pub mod Codes
 pub mod Printable

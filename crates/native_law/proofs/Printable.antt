@@ -20,7 +20,7 @@ use Rattle.codegen.specs.Emit.{instruction_places, function_of}
 use Rattle.machine_law.specs.matching.Compiled.{IsCodeOf}
 use Rattle.machine_law.proofs.emitted.TidyCode.{op_at}
 use Rattle.machine_law.proofs.matching.Compiled.{function_is, well_at}
-use Rattle.step_law.specs.Law.{IsPrintable}
+use Rattle.native_law.specs.Printed.{IsPrintable}
 use Rattle.native_law.proofs.Codes.{IsGood, IsFine, code_good}
 
 all_from : (P : Instruction → Type 0) (code : List Instruction)

@@ -14,7 +14,7 @@ use Rattle.pm_machine.specs.Logging.{blank, tx_run}
 use Rattle.machine_law.specs.matching.Compiled.{IsCodeOf}
 use Rattle.pm_machine.specs.Runs.{owed}
 use Rattle.c_fragment.specs.Events.{c_events}
-use Rattle.step_law.specs.Law.{printed_run, run_shown}
+use Rattle.native_law.specs.Printed.{printed_run, run_shown}
 
 pub record IsCompiledCall (image : Image) (heap : Words) (tx : ℕ) (args : List ℤ) : Type 0 where
   pub program : Ir

@@ -1,7 +1,9 @@
-//! Tables of texts: their tokens, and their trees. It stands on `c_parser` and holds nothing but
-//! tests.
+//! Tables of texts: their tokens, the tokens that their constants leave, and their trees. It stands
+//! on `c_constants` and `c_parser` and holds nothing but tests.
 #![tactic(auto)]
 
+#[cfg(test)]
+mod constants;
 #[cfg(test)]
 mod tokens;
 #[cfg(test)]
