@@ -10,14 +10,19 @@ use Rattle.code_meaning.specs.Code.{IsOver}
 use Rattle.c_tree.specs.Program.{tree_of}
 use Rattle.c_types.specs.Tables.{tables_of}
 use Rattle.lower_law.specs.Law.{ended_outcome, LowerLaw, TransactionLaw}
+use Rattle.lower_law.specs.Accesses.{AccessesLaw}
 use Rattle.lower_law.specs.Parameters.{ParametersLaw}
-use Rattle.lower_law.proofs.Functions.{keeps}
-use Rattle.lower_law.proofs.Entries.{transaction_keeps}
-use Rattle.lower_law.proofs.BodyFits.{program_fits}
-use Rattle.lower_law.proofs.Kept.{keeps_parameters}
+use Rattle.lower_law.proofs.runs.Functions.{keeps, keeps_accesses}
+use Rattle.lower_law.proofs.runs.Entries.{transaction_keeps}
+use Rattle.lower_law.proofs.names.BodyFits.{program_fits}
+use Rattle.lower_law.proofs.locals.Kept.{keeps_parameters}
 
 pub lower : LowerLaw
 lower tree e = keeps (tables_of (tree_of tree)) tree (lowered tree) (program_fits tree e)
+
+pub accesses : AccessesLaw
+accesses tree e =
+    keeps_accesses (tables_of (tree_of tree)) tree (lowered tree) (program_fits tree e)
 
 -- a run with an outcome has ended
 has_outcome : (e : CodeEnd) (o : Outcome) → ended_outcome e ≡ Some o → IsOver e

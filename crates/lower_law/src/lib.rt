@@ -4,13 +4,15 @@
 //! of `specs/`.
 #![tactic(auto)]
 
+ghost use Rattle.lower_law.specs.Accesses.{AccessesLaw};
 ghost use Rattle.lower_law.specs.Law.{LowerLaw, TransactionLaw};
 ghost use Rattle.lower_law.specs.Parameters.{ParametersLaw};
 
-/// The code of a checked tree does what the tree means, and assigns no parameter's register. The
-/// function does nothing.
+/// The code of a checked tree does what the tree means, by the tree's accesses in their order, and
+/// assigns no parameter's register. The function does nothing.
 pub fn law()
     ensures lower { LowerLaw }
+    ensures accesses { AccessesLaw }
     ensures transaction { TransactionLaw }
     ensures parameters { ParametersLaw }
 {}

@@ -7,8 +7,8 @@ use Rattle.c_types.specs.declared.value_type.ValueType.{ValueType}
 use Rattle.c_meaning.specs.Locals.{Local, assigned, oldest, local_declared}
 use Rattle.code_meaning.specs.Code.{register_at, put_register}
 use Rattle.code_meaning.proofs.Registers.{at_put_same}
-use Rattle.lower_law.proofs.Paths.{at-put_other}
-use Rattle.lower_law.proofs.Locals.{Entry, entry_register, Holds, AreBelow, held_after}
+use Rattle.lower_law.proofs.runs.Paths.{at-put_other}
+use Rattle.lower_law.proofs.locals.Locals.{Entry, entry_register, Holds, AreBelow, held_after}
 
 abbrev pub Differs : ℕ → List Entry → Type 0
 Differs r [] = Unit {0}

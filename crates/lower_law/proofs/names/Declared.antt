@@ -14,7 +14,7 @@ use Rattle.c_types.proofs.Index.{is_some_None}
 use Rattle.lower.specs.Names as names
 use Rattle.lower.specs.Names.{Variables, LocalRegister, variable_declared, register_in}
 use Rattle.lower.specs.Names.{variable_register, with_local, with_name}
-use Rattle.lower_law.proofs.Locals.{Entry, Agrees, entry_type, entry_register}
+use Rattle.lower_law.proofs.locals.Locals.{Entry, Agrees, entry_type, entry_register}
 
 -- the names, the types and the registers of a scope correspond one to one
 abbrev pub IsLevel : List (List ℕ) → List ValueType → List LocalRegister → Type 0

@@ -23,7 +23,7 @@ use Rattle.lower.specs.Lowers.{Context, exp_end, exp_code, reg_of, target_end, t
 use Rattle.lower.specs.Lowers.{arguments_end, arguments_code, form_code, truth_code, or_code}
 use Rattle.lower.specs.Lowers.{initial_code}
 use Rattle.code_meaning.specs.Parameters.{assigned_register}
-use Rattle.lower_law.proofs.Locals.{Entry, entry_register}
+use Rattle.lower_law.proofs.locals.Locals.{Entry, entry_register}
 
 -- a register, if any, from n on
 abbrev pub IsFrom : ℕ → Option ℕ → Type 0

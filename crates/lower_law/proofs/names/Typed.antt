@@ -30,7 +30,7 @@ use Rattle.lower.specs.Names.{function_number, found_number}
 use Rattle.lower.proofs.Sane.{IsSane}
 use Rattle.lower.proofs.GoodTypes.{callee, function_there}
 use Rattle.code_meaning.specs.Code as code
-use Rattle.lower_law.proofs.Fits.{CallFits}
+use Rattle.lower_law.proofs.names.Fits.{CallFits}
 
 -- a function that is called exists at its number
 pub call_fits : (t : Tables) (wanted : Bool) (name : Ident) (n : ℕ) → IsSane t

@@ -12,7 +12,7 @@ use Rattle.c_types.specs.Expressions.{Scope, variable_type, type_of, sides_type}
 use Rattle.c_meaning.specs.Locals.{Local, scopes_of}
 use Rattle.lower.specs.Names.{Variables}
 use Rattle.lower.proofs.Alike.{IsSame, kind_same}
-use Rattle.lower_law.proofs.Locals.{Entry, Agrees, entry_type, scopes_in}
+use Rattle.lower_law.proofs.locals.Locals.{Entry, Agrees, entry_type, scopes_in}
 
 entry_scopes : (name : List ℕ) (es : List Entry) → variable_type name (scopes_in es)
     ≡ entry_type name es

@@ -2,6 +2,7 @@
 use Rattle.std.proofs.Common.{◌≡◌, ℕ, suc, ◌<◌, ◌≤◌, ℤ, pos, negsuc, List, [], ◌∷◌, ◌++◌, map, refl}
 use Rattle.std.proofs.Common.{sym, ap, ◌∙◌, subst, arith, append_assoc}
 use Rattle.std.specs.Prelude.{Option, None, Some}
+use Rattle.std.specs.Option.{option_map_or}
 use Rattle.nvm_base.specs.declared.op.BinOp.TheVariants as op
 use Rattle.nvm_base.specs.Operations as word
 use Rattle.c_tree.specs.declared.expr.IntType.{IntType}
@@ -10,15 +11,20 @@ use Rattle.c_tree.specs.ExprTree as expr
 use Rattle.c_tree.specs.ExprTree.{ExprTree, Arguments}
 use Rattle.c_tree.specs.ItemTree.{FunctionTree}
 use Rattle.c_types.specs.Expressions.{sides_type}
-use Rattle.pool_map.specs.PoolMap.{PoolMap}
+use Rattle.c_types.specs.Tables.{number_at, words_at as struct_words}
+use Rattle.pool_map.specs.Checks.{new_at}
+use Rattle.pool_map.specs.PoolFits.{words_of}
+use Rattle.pool_map.specs.PoolMap.{PoolMap, least_free}
 use Rattle.pool_map.specs.declared.trap.TrapKind.TheVariants as trap
 use Rattle.c_meaning.specs.Locals.{Local, value_named}
 use Rattle.c_meaning.specs.Operators.{unary_of}
-use Rattle.c_meaning.specs.Access.{new_object}
 use Rattle.c_meaning.specs.Meaning as meaning
 use Rattle.c_meaning.specs.Meaning.{Out, Got, Stops, Calls, then_do, at_zero, loaded, made, tick}
 use Rattle.c_meaning.specs.Meaning.{called, value_of, pointer_of, values_of, placed_trap}
 use Rattle.c_meaning.specs.Meaning.{binary_means}
+use Rattle.c_meaning.specs.Accesses.{Access, CallAccesses, on_value, read_at, object_made}
+use Rattle.c_meaning.specs.Accesses.{right_accesses, called_accesses, value_accesses}
+use Rattle.c_meaning.specs.Accesses.{pointer_accesses, argument_accesses}
 use Rattle.ir.specs.declared.instruction.Target.{Target}
 use Rattle.ir.specs.declared.instruction.Instruction.{Instruction}
 use Rattle.ir.specs.declared.instruction.Instruction.TheVariants.{Const, Copy, Bin, Jump, Branch}
@@ -32,20 +38,21 @@ use Rattle.lower.specs.Lowers.{target_of, arguments_end, arguments_code, registe
 use Rattle.lower.specs.Lowers.{form_code}
 use Rattle.lower.proofs.Ends.{exp_end_le, target_end_le, arguments_end_le, form_end_le}
 use Rattle.lower.proofs.Ends.{form_end_typed}
-use Rattle.code_meaning.specs.Code.{Frame, Here, Goes, register_at, put_register, act}
-use Rattle.code_meaning.specs.Code.{instruction_step, base_in}
-use Rattle.code_meaning.proofs.Registers.{at_put_same}
-use Rattle.lower_law.proofs.Paths.{path_step}
-use Rattle.lower_law.proofs.Has.{HasAt, exp_has, target_has, arguments_has}
-use Rattle.lower_law.proofs.Locals.{Entry, Agrees, Holds, AreBelow, Same, value_held, held_after}
-use Rattle.lower_law.proofs.Locals.{below_more, entry_below, register_found, scopes_held}
-use Rattle.lower_law.proofs.Sides.{sides_met}
-use Rattle.lower_law.proofs.Fits.{WordFits, ExpFits, PointerFits, ArgumentsFit}
-use Rattle.lower_law.proofs.ExprSteps.{CallsRun, form_value, form_means, element_fits, element_base}
-use Rattle.lower_law.proofs.ExprSteps.{element_index, grows, Gives, word_at, words_at, base_at}
-use Rattle.lower_law.proofs.ExprSteps.{after, gives_then, put_same, puts, field_gives, stays}
-use Rattle.lower_law.proofs.ExprSteps.{at_branch, branch_gives, hands_on, copy_gives, copy_jumps}
-use Rattle.lower_law.proofs.ExprSteps.{tick_gives, form_runs}
+use Rattle.code_meaning.specs.Code.{Frame, Here, Goes, register_at, put_register, base_in}
+use Rattle.code_meaning.specs.Code.{fields_of}
+use Rattle.lower_law.proofs.runs.Paths.{acted, silent}
+use Rattle.lower_law.proofs.runs.Has.{HasAt, exp_has, target_has, arguments_has}
+use Rattle.lower_law.proofs.locals.Locals.{Entry, Agrees, Holds, AreBelow, Same, value_held}
+use Rattle.lower_law.proofs.locals.Locals.{held_after}
+use Rattle.lower_law.proofs.locals.Locals.{below_more, entry_below, register_found, scopes_held}
+use Rattle.lower_law.proofs.locals.Sides.{sides_met}
+use Rattle.lower_law.proofs.names.Fits.{WordFits, ExpFits, PointerFits, ArgumentsFit}
+use Rattle.lower_law.proofs.runs.ExprSteps.{CallsRun, form_value, form_means, element_fits}
+use Rattle.lower_law.proofs.runs.ExprSteps.{element_base}
+use Rattle.lower_law.proofs.runs.ExprSteps.{element_index, grows, Gives, word_at, words_at, base_at}
+use Rattle.lower_law.proofs.runs.ExprSteps.{after, gives_then, gives_quiet, puts, field_gives, news}
+use Rattle.lower_law.proofs.runs.ExprSteps.{new_gives, stays, at_branch, branch_gives, hands_on}
+use Rattle.lower_law.proofs.runs.ExprSteps.{copy_gives, copy_jumps, tick_gives, form_runs}
 
 -- a value that nothing is done to
 then_same : (o : Out ℤ) → then_do o (λ x w t. Got x w t) ≡ o
@@ -54,8 +61,9 @@ then_same (Stops trap) = refl
 
 module _ (ir : Ir) (m f : ℕ) (k : Context) (rises : (p q : ℕ) → p < q → k.node p < k.node q)
     (below : List Frame) where
-  module _ (calls : Calls) (run : CallsRun k.tables ir m f below calls) (v : Variables)
-      (es : List Entry) (agrees : Agrees v es) (ls : List Local) where
+  module _ (calls : Calls) (seen : CallAccesses)
+      (run : CallsRun k.tables ir m f below calls seen) (v : Variables) (es : List Entry)
+      (agrees : Agrees v es) (ls : List Local) where
     -- at p the registers hold the locals, whose registers aren't those of later places
     pub record Ready (p : ℕ) (regs : List ℤ) : Type 0 where
       pub under : AreBelow (k.node p) es
@@ -126,13 +134,14 @@ module _ (ir : Ir) (m f : ℕ) (k : Context) (rises : (p q : ℕ) → p < q → 
       pub exp_runs : (e : ExprTree) (p : ℕ) (rest : List Instruction) (regs : List ℤ) (w : PoolMap)
           (t : ℕ) → ExpFits k ir v es e → HasAt ir f p (exp_code k v e p ++ rest) → Ready p regs
           → Gives ir m f k rises below (word_at ir m f k rises below (reg_of k v e (exp_end e p))) p
-          (exp_end e p) regs w t (value_of k.tables calls e ls w t)
+          (exp_end e p) regs w t (value_accesses k.tables calls seen e ls w t)
+          (value_of k.tables calls e ls w t)
       exp_runs (expr.Number n) p rest regs w t fits h ready =
           puts ir m f k rises below p (suc p) n regs w t (omega arith)
-          (ap (λ i. act ir i f p regs below w t) h.0)
+          (ap (λ i. acted ir i f p regs below w t) h.0)
       exp_runs expr.Null p rest regs w t fits h ready =
           puts ir m f k rises below p (suc p) (pos 0) regs w t (omega arith)
-          (ap (λ i. act ir i f p regs below w t) h.0)
+          (ap (λ i. acted ir i f p regs below w t) h.0)
       exp_runs (expr.Variable name) p rest regs w t fits h ready =
           stays ir m f k rises below (word_at ir m f k rises below (register_of name.text v)) p regs
           w t (value_named name.text ls)
@@ -149,34 +158,41 @@ module _ (ir : Ir) (m f : ℕ) (k : Context) (rises : (p q : ℕ) → p < q → 
           let hq : HasAt ir f p1 tail = arguments_has ir f k v all p tail ha in
           subst (λ (o : Option FunctionTree).
           Gives ir m f k rises below (word_at ir m f k rises below to) p (suc (suc p1)) regs w t
+          (called_accesses seen o (argument_accesses k.tables calls seen all ls w t)
+          (values_of k.tables calls all ls w t))
           (called calls name.place o (λ f. values_of k.tables calls all ls w t) w t))
           (sym fits.0.named)
           (gives_then ir m f k rises below (words_at ir m f k rises below rs)
           (word_at ir m f k rises below to) p p1 (suc (suc p1)) regs w t
-          (values_of k.tables calls all ls w t) (λ vs w t.
+          (argument_accesses k.tables calls seen all ls w t)
+          (values_of k.tables calls all ls w t) (λ vs w t. tick t [] (λ t. seen fn vs w t))
+          (λ vs w t.
           tick t (Stops (placed_trap trap.Steps name.place)) (λ t. calls name.place fn vs w t))
           (arguments_end_le all p) (omega arith)
           (arguments_run all p tail regs w t fits.1 ha ready)
-          (λ vs w1 t1 regs1 s1 e1. tick_gives ir m f k rises below calls name.place p1 g fn rs vs
-          regs1 w1 t1 run fits.0.stands e1 hq.0 hq.1.0))
+          (λ vs w1 t1 regs1 s1 e1. tick_gives ir m f k rises below calls seen name.place p1 g fn rs
+          vs regs1 w1 t1 run fits.0.stands e1 hq.0 hq.1.0))
       exp_runs (expr.Root name) p rest regs w t fits h ready =
           field_gives ir m f k rises below es ls p (expr.Root name) (expr.Root name)
           (target_of k v (expr.Root name) p) (pos 0) None regs w t (fits p) refl refl h.0
           ready.holds
       exp_runs (expr.New place name) p rest regs w t fits h ready =
           let kind : ℕ = kind_named k.tables name.text in
-          let made_by : (r : ℤ × PoolMap) → instruction_step ir (Here f p regs below w t)
-          ≡ Goes (Here f (suc p) (put_register regs (k.node (suc p)) r.0) below r.1 t)
-          → Gives ir m f k rises below (word_at ir m f k rises below (k.node (suc p))) p (suc p)
-          regs w t (made r t) = λ r st. record {
-            regs' = put_register regs (k.node (suc p)) r.0;
-            path = path_step p t st;
-            same = put_same ir m f k rises below p (suc p) r.0 regs (omega arith);
-            value = at_put_same regs (k.node (suc p)) r.0;
-          } in
-          made_by (new_object k.tables w name.text) (ap (λ i. act ir i f p regs below w t) h.0
-          ∙ ap (λ (r : ℤ × PoolMap). Goes
-          (Here f (suc p) (put_register regs (k.node (suc p)) r.0) below r.1 t)) (sym (fits w)))
+          let words : ℕ = words_of (fields_of ir.shapes kind) in
+          let n : ℕ = number_at k.tables fits.place in
+          subst (λ (o : Option ℕ).
+          Gives ir m f k rises below (word_at ir m f k rises below (k.node (suc p))) p (suc p) regs
+          w t (option_map_or (λ i.
+          object_made (number_at k.tables i) (struct_words k.tables i) (least_free w)) o [])
+          (made (option_map_or (λ i.
+          new_at w (number_at k.tables i) (struct_words k.tables i) (least_free w)) o
+          (pos 0, w)) t))
+          (sym fits.named)
+          (new_gives ir m f k rises below p n (struct_words k.tables fits.place) (least_free w) regs
+          w t
+          (ap (λ i. acted ir i f p regs below w t) h.0
+          ∙ ap (λ j. news ir m f k rises below p j words (least_free w) regs w t) (sym fits.kind)
+          ∙ ap (λ j. news ir m f k rises below p n j (least_free w) regs w t) (sym fits.words)))
       exp_runs (expr.Arrow base place name) p rest regs w t fits h ready =
           let p1 : ℕ = exp_end base p in
           let x : Target = target_of k v (expr.Arrow base place name) p in
@@ -186,7 +202,8 @@ module _ (ir : Ir) (m f : ℕ) (k : Context) (rises : (p q : ℕ) → p < q → 
           let le : p ≤ p1 = exp_end_le base p in
           gives_then ir m f k rises below (word_at ir m f k rises below (reg_of k v base p1))
           (word_at ir m f k rises below (k.node (suc p1))) p p1 (suc p1) regs w t
-          (value_of k.tables calls base ls w t)
+          (value_accesses k.tables calls seen base ls w t) (value_of k.tables calls base ls w t)
+          (λ b w t. read_at (meaning.located k.tables ls w (expr.Arrow base place name) b None))
           (λ b w t. loaded (meaning.located k.tables ls w (expr.Arrow base place name) b None) w
           t) le
           (omega arith) (exp_runs base p (i ∷ rest) regs w t fits.0 ha ready)
@@ -210,7 +227,10 @@ module _ (ir : Ir) (m f : ℕ) (k : Context) (rises : (p q : ℕ) → p < q → 
           let le1 : q ≤ q1 = exp_end_le i q in
           gives_then ir m f k rises below (base_at ir m f k rises below x)
           (word_at ir m f k rises below to) p q (suc q1) regs w t
-          (pointer_of k.tables calls a ls w t)
+          (pointer_accesses k.tables calls seen a ls w t) (pointer_of k.tables calls a ls w t)
+          (λ b w t. value_accesses k.tables calls seen i ls w t
+          ++ on_value (value_of k.tables calls i ls w t)
+          (λ j w t. read_at (meaning.located k.tables ls w (expr.Index a place i) b (Some j))))
           (λ b w t. then_do (value_of k.tables calls i ls w t)
           (λ j w t. loaded (meaning.located k.tables ls w (expr.Index a place i) b (Some j)) w t))
           le (omega (arith, le1))
@@ -219,7 +239,8 @@ module _ (ir : Ir) (m f : ℕ) (k : Context) (rises : (p q : ℕ) → p < q → 
           s1 ready in
           gives_then ir m f k rises below (word_at ir m f k rises below ri)
           (word_at ir m f k rises below to) q q1 (suc q1) regs1 w1 t1
-          (value_of k.tables calls i ls w1 t1)
+          (value_accesses k.tables calls seen i ls w1 t1) (value_of k.tables calls i ls w1 t1)
+          (λ j w t. read_at (meaning.located k.tables ls w (expr.Index a place i) b (Some j)))
           (λ j w t. loaded (meaning.located k.tables ls w (expr.Index a place i) b (Some j)) w t)
           le1 (omega arith)
           (exp_runs i q (ld ∷ rest) regs1 w1 t1 fits.1 hi ready1)
@@ -239,24 +260,26 @@ module _ (ir : Ir) (m f : ℕ) (k : Context) (rises : (p q : ℕ) → p < q → 
           let hi : HasAt ir f q (i ∷ rest) = exp_has ir f k v a (suc p) (i ∷ rest) ha in
           let le : suc p ≤ q = exp_end_le a (suc p) in
           let g = puts ir m f k rises below p (suc p) (pos 0) regs w t (omega arith)
-          (ap (λ i. act ir i f p regs below w t) h.0) in
+          (ap (λ i. acted ir i f p regs below w t) h.0) in
           after ir m f k rises below (word_at ir m f k rises below to) p (suc p) (suc q) regs
-          g.regs' w w t t (omega arith) g.path g.same
+          g.regs' w w t t [] (value_accesses k.tables calls seen a ls w t) (omega arith) g.path
+          g.same
           (then_do (value_of k.tables calls a ls w t)
           (λ x w t. Got (unary_of unary.Negate x) w t))
-          (gives_then ir m f k rises below (word_at ir m f k rises below ra)
+          (gives_quiet ir m f k rises below (word_at ir m f k rises below ra)
           (word_at ir m f k rises below to) (suc p) q (suc q) g.regs' w t
-          (value_of k.tables calls a ls w t) (λ x w t. Got (unary_of unary.Negate x) w t) le
+          (value_accesses k.tables calls seen a ls w t) (value_of k.tables calls a ls w t)
+          (λ x w t. Got (unary_of unary.Negate x) w t) le
           (omega arith) (exp_runs a (suc p) (i ∷ rest) g.regs' w t fits ha
           (ready_after p (suc p) regs g.regs' (omega arith) g.same ready))
           (λ x w1 t1 regs1 s1 e1. let e0 : register_at regs1 (k.node (suc p)) ≡ pos 0 =
           s1 (k.node (suc p)) (omega arith) ∙ g.value in
           puts ir m f k rises below q (suc q) (word.sub (pos 0) x) regs1 w1 t1 (omega arith)
-          (ap (λ i. act ir i f q regs1 below w1 t1) hi.0
-          ∙ ap (λ u. Goes (Here f (suc q)
-          (put_register regs1 to (word.sub u (register_at regs1 ra))) below w1 t1)) e0
-          ∙ ap (λ u. Goes (Here f (suc q) (put_register regs1 to (word.sub (pos 0) u)) below w1
-          t1)) e1)))
+          (ap (λ i. acted ir i f q regs1 below w1 t1) hi.0
+          ∙ ap (λ u. silent (Goes (Here f (suc q)
+          (put_register regs1 to (word.sub u (register_at regs1 ra))) below w1 t1))) e0
+          ∙ ap (λ u. silent (Goes (Here f (suc q) (put_register regs1 to (word.sub (pos 0) u)) below
+          w1 t1))) e1)))
       exp_runs (expr.Unary unary.Complement place a) p rest regs w t fits h ready =
           let q : ℕ = exp_end a (suc p) in
           let ra : ℕ = reg_of k v a q in
@@ -267,24 +290,26 @@ module _ (ir : Ir) (m f : ℕ) (k : Context) (rises : (p q : ℕ) → p < q → 
           let hi : HasAt ir f q (i ∷ rest) = exp_has ir f k v a (suc p) (i ∷ rest) ha in
           let le : suc p ≤ q = exp_end_le a (suc p) in
           let g = puts ir m f k rises below p (suc p) (negsuc 0) regs w t (omega arith)
-          (ap (λ i. act ir i f p regs below w t) h.0) in
+          (ap (λ i. acted ir i f p regs below w t) h.0) in
           after ir m f k rises below (word_at ir m f k rises below to) p (suc p) (suc q) regs
-          g.regs' w w t t (omega arith) g.path g.same
+          g.regs' w w t t [] (value_accesses k.tables calls seen a ls w t) (omega arith) g.path
+          g.same
           (then_do (value_of k.tables calls a ls w t)
           (λ x w t. Got (unary_of unary.Complement x) w t))
-          (gives_then ir m f k rises below (word_at ir m f k rises below ra)
+          (gives_quiet ir m f k rises below (word_at ir m f k rises below ra)
           (word_at ir m f k rises below to) (suc p) q (suc q) g.regs' w t
-          (value_of k.tables calls a ls w t) (λ x w t. Got (unary_of unary.Complement x) w t) le
+          (value_accesses k.tables calls seen a ls w t) (value_of k.tables calls a ls w t)
+          (λ x w t. Got (unary_of unary.Complement x) w t) le
           (omega arith) (exp_runs a (suc p) (i ∷ rest) g.regs' w t fits ha
           (ready_after p (suc p) regs g.regs' (omega arith) g.same ready))
           (λ x w1 t1 regs1 s1 e1. let e0 : register_at regs1 (k.node (suc p)) ≡ negsuc 0 =
           s1 (k.node (suc p)) (omega arith) ∙ g.value in
           puts ir m f k rises below q (suc q) (word.xor_of (negsuc 0) x) regs1 w1 t1 (omega arith)
-          (ap (λ i. act ir i f q regs1 below w1 t1) hi.0
-          ∙ ap (λ u. Goes (Here f (suc q)
-          (put_register regs1 to (word.xor_of u (register_at regs1 ra))) below w1 t1)) e0
-          ∙ ap (λ u. Goes (Here f (suc q) (put_register regs1 to (word.xor_of (negsuc 0) u)) below
-          w1 t1)) e1)))
+          (ap (λ i. acted ir i f q regs1 below w1 t1) hi.0
+          ∙ ap (λ u. silent (Goes (Here f (suc q)
+          (put_register regs1 to (word.xor_of u (register_at regs1 ra))) below w1 t1))) e0
+          ∙ ap (λ u. silent (Goes (Here f (suc q) (put_register regs1 to (word.xor_of (negsuc 0) u))
+          below w1 t1))) e1)))
       exp_runs (expr.Unary unary.Not place a) p rest regs w t fits h ready =
           let q : ℕ = exp_end a p in
           let ra : ℕ = reg_of k v a q in
@@ -295,24 +320,26 @@ module _ (ir : Ir) (m f : ℕ) (k : Context) (rises : (p q : ℕ) → p < q → 
           let ha : HasAt ir f p (exp_code k v a p ++ i ∷ j ∷ rest) = simp append_assoc at h in
           let hi : HasAt ir f q (i ∷ j ∷ rest) = exp_has ir f k v a p (i ∷ j ∷ rest) ha in
           let le : p ≤ q = exp_end_le a p in
-          gives_then ir m f k rises below (word_at ir m f k rises below ra)
+          gives_quiet ir m f k rises below (word_at ir m f k rises below ra)
           (word_at ir m f k rises below to) p q (suc (suc q)) regs w t
+          (value_accesses k.tables calls seen a ls w t)
           (value_of k.tables calls a ls w t) (λ x w t. Got (unary_of unary.Not x) w t) le
           (omega arith) (exp_runs a p (i ∷ j ∷ rest) regs w t fits ha ready)
           (λ x w1 t1 regs1 s1 e1. let g = puts ir m f k rises below q (suc q) (pos 0) regs1 w1 t1
-          (omega arith) (ap (λ i. act ir i f q regs1 below w1 t1) hi.0) in
+          (omega arith) (ap (λ i. acted ir i f q regs1 below w1 t1) hi.0) in
           let e2 : register_at g.regs' ra ≡ x = g.same ra (reg_le a p q le ready.under fits) ∙ e1 in
           after ir m f k rises below (word_at ir m f k rises below to) q (suc q) (suc (suc q)) regs1
-          g.regs' w1 w1 t1 t1 (omega arith) g.path g.same (Got (word.eq x (pos 0)) w1 t1)
+          g.regs' w1 w1 t1 t1 [] [] (omega arith) g.path g.same (Got (word.eq x (pos 0)) w1 t1)
           (puts ir m f k rises below (suc q) (suc (suc q)) (word.eq x (pos 0)) g.regs' w1 t1
-          (omega arith) (ap (λ i. act ir i f (suc q) g.regs' below w1 t1) hi.1.0
-          ∙ ap (λ u. Goes (Here f (suc (suc q))
-          (put_register g.regs' to (word.eq u (register_at g.regs' z))) below w1 t1)) e2
-          ∙ ap (λ u. Goes (Here f (suc (suc q)) (put_register g.regs' to (word.eq x u)) below w1
-          t1)) g.value)))
+          (omega arith) (ap (λ i. acted ir i f (suc q) g.regs' below w1 t1) hi.1.0
+          ∙ ap (λ u. silent (Goes (Here f (suc (suc q))
+          (put_register g.regs' to (word.eq u (register_at g.regs' z))) below w1 t1))) e2
+          ∙ ap (λ u. silent (Goes (Here f (suc (suc q)) (put_register g.regs' to
+          (word.eq x u)) below w1 t1))) g.value)))
       exp_runs (expr.Unary (unary.Cast n) place a) p rest regs w t fits h ready =
           subst (λ (out : Out ℤ). Gives ir m f k rises below
-          (word_at ir m f k rises below (reg_of k v a (exp_end a p))) p (exp_end a p) regs w t out)
+          (word_at ir m f k rises below (reg_of k v a (exp_end a p))) p (exp_end a p) regs w t
+          (value_accesses k.tables calls seen a ls w t) out)
           (sym (then_same (value_of k.tables calls a ls w t)))
           (exp_runs a p rest regs w t fits h ready)
       exp_runs (expr.Binary o place a b) p rest regs w t fits h ready =
@@ -332,28 +359,37 @@ module _ (ir : Ir) (m f : ℕ) (k : Context) (rises : (p q : ℕ) → p < q → 
           ≡ then_do left (λ x w t. form_value form place x right w t) =
           ap (λ (i : IntType). binary_means o i place left right)
           (sides_met k.tables v es ls agrees (scopes_held es ls regs ready.holds) o a b)
-          ∙ form_means o n place left right in
+          ∙ (form_means o n place left right).0 in
           subst (λ (z : ℕ). Gives ir m f k rises below
           (word_at ir m f k rises below (k.node z)) p z regs w t
+          (value_accesses k.tables calls seen (expr.Binary o place a b) ls w t)
           (value_of k.tables calls (expr.Binary o place a b) ls w t))
           (form_end_typed n (form_of o) (exp_end b) q)
           (subst (λ (out : Out ℤ). Gives ir m f k rises below
-          (word_at ir m f k rises below (k.node end)) p end regs w t out)
+          (word_at ir m f k rises below (k.node end)) p end regs w t
+          (value_accesses k.tables calls seen (expr.Binary o place a b) ls w t) out)
           (sym means)
           (gives_then ir m f k rises below (word_at ir m f k rises below ra)
           (word_at ir m f k rises below (k.node end)) p q end regs w t
-          left (λ x w t. form_value form place x right w t) le
+          (value_accesses k.tables calls seen a ls w t)
+          left (λ x w t. right_accesses o x (value_accesses k.tables calls seen b ls w t))
+          (λ x w t. form_value form place x right w t) le
           (form_end_le form (exp_end b) q (λ z. exp_end_le b z))
           (exp_runs a p (is ++ rest) regs w t fits.0 ha ready)
           (λ x w1 t1 regs1 s1 e1. let ready1 : Ready q regs1 = ready_after p q regs regs1 le
           s1 ready in
-          form_runs ir m f k rises below form place (exp_code k v b) (exp_end b)
+          let more : List Access = value_accesses k.tables calls seen b ls w1 t1 in
+          subst (λ l. Gives ir m f k rises below
+          (word_at ir m f k rises below (k.node end)) q end regs1 w1 t1 l
+          (form_value form place x right w1 t1))
+          (sym ((form_means o n place left right).1 x more))
+          (form_runs ir m f k rises below form place (exp_code k v b) (exp_end b)
           (reg_of k v b)
-          right ra q x rest regs1 w1 t1 (λ z. exp_end_le b z) (λ z r hz.
+          right more ra q x rest regs1 w1 t1 (λ z. exp_end_le b z) (λ z r hz.
           exp_has ir f k v b z r hz)
           (λ z r lez hz. exp_runs b z r regs1 w1 t1 fits.1 hz
           (ready_after q z regs1 regs1 lez (λ r small. refl) ready1))
-          (reg_le a p q le ready.under fits.0) e1 hq)))
+          (reg_le a p q le ready.under fits.0) e1 hq))))
       exp_runs (expr.Conditional c place a b) p rest regs w t fits h ready =
           let p1 : ℕ = exp_end c p in
           let p2 : ℕ = exp_end a (suc p1) in
@@ -375,23 +411,27 @@ module _ (ir : Ir) (m f : ℕ) (k : Context) (rises : (p q : ℕ) → p < q → 
           let le2 : suc p1 ≤ p2 = exp_end_le a (suc p1) in
           let le3 : q ≤ p3 = exp_end_le b q in
           gives_then ir m f k rises below (word_at ir m f k rises below rc)
-          (word_at ir m f k rises below to) p p1 end regs w t (value_of k.tables calls c ls w t)
+          (word_at ir m f k rises below to) p p1 end regs w t
+          (value_accesses k.tables calls seen c ls w t) (value_of k.tables calls c ls w t)
+          (λ x w t. at_zero x (value_accesses k.tables calls seen b ls w t)
+          (value_accesses k.tables calls seen a ls w t))
           (λ x w t. at_zero x (value_of k.tables calls b ls w t) (value_of k.tables calls a ls w t))
           le1 (omega (arith, le2, le3)) (exp_runs c p all regs w t fits.0 hc ready)
           (λ x w1 t1 regs1 s1 e1. let ready1 : Ready p1 regs1 = ready_after p p1 regs regs1 le1
           s1 ready in
           branch_gives ir m f k rises below (word_at ir m f k rises below to) p1 q end x regs1 w1 t1
-          (value_of k.tables calls b ls w1 t1) (value_of k.tables calls a ls w1 t1)
+          (value_accesses k.tables calls seen b ls w1 t1) (value_of k.tables calls b ls w1 t1)
+          (value_accesses k.tables calls seen a ls w1 t1) (value_of k.tables calls a ls w1 t1)
           (omega (arith, le2)) (at_branch ir m f k rises below p1 q rc x regs1 w1 t1 h1.0 e1)
           (hands_on ir m f k rises below rb to q p3 end regs1 w1 t1
-          (value_of k.tables calls b ls w1 t1) le3 (omega arith)
-          (exp_runs b q last regs1 w1 t1 fits.2 h2.1.1
+          (value_accesses k.tables calls seen b ls w1 t1) (value_of k.tables calls b ls w1 t1) le3
+          (omega arith) (exp_runs b q last regs1 w1 t1 fits.2 h2.1.1
           (ready_after p1 q regs1 regs1 (omega (arith, le2)) (λ r small. refl) ready1))
           (λ u w2 t2 regs2 e2. copy_gives ir m f k rises below p3 end rb u regs2 w2 t2
           (omega arith) h3.0 e2))
           (hands_on ir m f k rises below ra to (suc p1) p2 end regs1 w1 t1
-          (value_of k.tables calls a ls w1 t1) le2 (omega (arith, le3))
-          (exp_runs a (suc p1) left regs1 w1 t1 fits.1 h1.1
+          (value_accesses k.tables calls seen a ls w1 t1) (value_of k.tables calls a ls w1 t1) le2
+          (omega (arith, le3)) (exp_runs a (suc p1) left regs1 w1 t1 fits.1 h1.1
           (ready_after p1 (suc p1) regs1 regs1 (omega arith) (λ r small. refl) ready1))
           (λ u w2 t2 regs2 e2. copy_jumps ir m f k rises below p2 end ra u regs2 w2 t2
           (omega (arith, le3)) h2.0 h2.1.0 e2)))
@@ -401,7 +441,8 @@ module _ (ir : Ir) (m f : ℕ) (k : Context) (rises : (p q : ℕ) → p < q → 
           → HasAt ir f p (target_code k v a p ++ rest)
           → Ready p regs
           → Gives ir m f k rises below (base_at ir m f k rises below (target_of k v a p)) p
-          (target_end a p) regs w t (pointer_of k.tables calls a ls w t)
+          (target_end a p) regs w t (pointer_accesses k.tables calls seen a ls w t)
+          (pointer_of k.tables calls a ls w t)
       pointer_runs (expr.Root name) p rest regs w t fits h ready =
           stays ir m f k rises below (base_at ir m f k rises below
           (target_of k v (expr.Root name) p))
@@ -422,7 +463,8 @@ module _ (ir : Ir) (m f : ℕ) (k : Context) (rises : (p q : ℕ) → p < q → 
           (w : PoolMap) (t : ℕ) → ArgumentsFit k ir v es all
           → HasAt ir f p (arguments_code k v all p ++ rest) → Ready p regs
           → Gives ir m f k rises below (words_at ir m f k rises below (registers_of k v all p)) p
-          (arguments_end all p) regs w t (values_of k.tables calls all ls w t)
+          (arguments_end all p) regs w t (argument_accesses k.tables calls seen all ls w t)
+          (values_of k.tables calls all ls w t)
       arguments_run expr.None p rest regs w t fits h ready =
           stays ir m f k rises below (words_at ir m f k rises below []) p regs w t [] refl
       arguments_run (expr.More first e others) p rest regs w t fits h ready =
@@ -438,11 +480,13 @@ module _ (ir : Ir) (m f : ℕ) (k : Context) (rises : (p q : ℕ) → p < q → 
           let le1 : p1 ≤ q = arguments_end_le others p1 in
           gives_then ir m f k rises below (word_at ir m f k rises below re)
           (words_at ir m f k rises below (re ∷ rs)) p p1 q regs w t
-          (value_of k.tables calls e ls w t)
+          (value_accesses k.tables calls seen e ls w t) (value_of k.tables calls e ls w t)
+          (λ u w t. argument_accesses k.tables calls seen others ls w t)
           (λ u w t. then_do (values_of k.tables calls others ls w t) (λ us w t. Got (u ∷ us) w t))
           le le1 (exp_runs e p (arguments_code k v others p1 ++ rest) regs w t fits.0 ha ready)
-          (λ u w1 t1 regs1 s1 e1. gives_then ir m f k rises below (words_at ir m f k rises below rs)
-          (words_at ir m f k rises below (re ∷ rs)) p1 q q regs1 w1 t1
+          (λ u w1 t1 regs1 s1 e1. gives_quiet ir m f k rises below
+          (words_at ir m f k rises below rs) (words_at ir m f k rises below (re ∷ rs)) p1 q q regs1
+          w1 t1 (argument_accesses k.tables calls seen others ls w1 t1)
           (values_of k.tables calls others ls w1 t1) (λ us w t. Got (u ∷ us) w t) le1
           (omega arith) (arguments_run others p1 rest regs1 w1 t1 fits.1 ho
           (ready_after p p1 regs regs1 le s1 ready))

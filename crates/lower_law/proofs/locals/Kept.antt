@@ -37,15 +37,15 @@ use Rattle.lower.specs.Lowers.{statements_code}
 use Rattle.lower.specs.Program.{parameters_end, parameters_code, variables_after_parameters}
 use Rattle.lower.specs.Program.{no_variables, function_code, context_at, lowered_function, lowered}
 use Rattle.code_meaning.specs.Parameters.{KeepsParameters}
-use Rattle.lower_law.proofs.Locals.{Entry, Agrees, entry_register, register_found}
-use Rattle.lower_law.proofs.StmtFits.{TargetFits, SimpleFits, FirstFits, ThirdFits, StmtFits}
-use Rattle.lower_law.proofs.StmtFits.{StatementsFit, entry_in, first_entries, entries_after}
-use Rattle.lower_law.proofs.Functions.{parameter_entry, parameter_entries, ParametersFit}
-use Rattle.lower_law.proofs.Functions.{FunctionFits, ProgramFits}
-use Rattle.lower_law.proofs.Leaves.{IsFrom, Leaves, AllLeave, both_leave, Spares}
-use Rattle.lower_law.proofs.Leaves.{bytes_self, bytes_turned, spares_part}
-use Rattle.lower_law.proofs.Leaves.{spares_declared, or_leaves, initial_leaves, exp_leaves}
-use Rattle.lower_law.proofs.Leaves.{target_leaves}
+use Rattle.lower_law.proofs.locals.Locals.{Entry, Agrees, entry_register, register_found}
+use Rattle.lower_law.proofs.names.StmtFits.{TargetFits, SimpleFits, FirstFits, ThirdFits, StmtFits}
+use Rattle.lower_law.proofs.names.StmtFits.{StatementsFit, entry_in, first_entries, entries_after}
+use Rattle.lower_law.proofs.runs.Functions.{parameter_entry, parameter_entries, ParametersFit}
+use Rattle.lower_law.proofs.runs.Functions.{FunctionFits, ProgramFits}
+use Rattle.lower_law.proofs.locals.Leaves.{IsFrom, Leaves, AllLeave, both_leave, Spares}
+use Rattle.lower_law.proofs.locals.Leaves.{bytes_self, bytes_turned, spares_part}
+use Rattle.lower_law.proofs.locals.Leaves.{spares_declared, or_leaves, initial_leaves, exp_leaves}
+use Rattle.lower_law.proofs.locals.Leaves.{target_leaves}
 
 module _ (n : ℕ) (k : Context) (from : (q : ℕ) → n ≤ k.node q) where
   module _ (ir : Ir) where

@@ -1,24 +1,24 @@
 -- The conditions on the names of a statement under which its code does what it means.
 use Rattle.std.proofs.Common.{◌≡◌, ℕ, suc, ℤ, List, ◌∷◌}
-use Rattle.std.specs.Prelude.{Option, None, Some}
+use Rattle.std.specs.Prelude.{Option, None, Some, option_map}
 use Rattle.c_tree.specs.ExprTree as expr
 use Rattle.c_tree.specs.ExprTree.{ExprTree, Ident}
 use Rattle.c_tree.specs.StmtTree as stmt
 use Rattle.c_tree.specs.StmtTree.{StmtTree, Statements, SimpleTree, FirstTree, DeclarationTree}
 use Rattle.c_tree.specs.StmtTree.{InitialTree}
-use Rattle.c_types.specs.Tables.{declared_type, pointed_struct}
+use Rattle.c_types.specs.Tables.{declared_type, pointed_struct, number_at}
 use Rattle.c_types.specs.Expressions.{type_of}
 use Rattle.pool_map.specs.PoolMap.{PoolMap}
 use Rattle.c_meaning.specs.Locals.{Local, scopes_of}
-use Rattle.c_meaning.specs.Access.{free_object}
+use Rattle.c_meaning.specs.Access.{struct_slot, struct_pointed_by}
 use Rattle.ir.specs.declared.function.Ir.{Ir}
 use Rattle.lower.specs.Names.{Variables, inner_variables, variable_declared, variable_of}
 use Rattle.lower.specs.Names.{struct_kind_at}
 use Rattle.lower.specs.Lowers.{Context, exp_end, or_end, initial_end, first_end}
 use Rattle.lower.specs.Lowers.{variables_after_first, variables_after, stmt_end}
-use Rattle.code_meaning.specs.Code.{free_in}
-use Rattle.lower_law.proofs.Locals.{Entry, Agrees, entry_register, scopes_in}
-use Rattle.lower_law.proofs.Fits.{ExpFits, PointerFits, FieldFits}
+use Rattle.code_meaning.specs.Code.{slot_of}
+use Rattle.lower_law.proofs.locals.Locals.{Entry, Agrees, entry_register, scopes_in}
+use Rattle.lower_law.proofs.names.Fits.{ExpFits, PointerFits, FieldFits}
 
 module _ (k : Context) (ir : Ir) where
   -- a target that is no variable
@@ -44,10 +44,11 @@ module _ (k : Context) (ir : Ir) where
   OrFits v es None = Unit {0}
   OrFits v es (Some e) = ExpFits k ir v es e
 
+  -- the slot of the object that is freed is the same
   abbrev pub FreeFits : Variables → List Entry → ExprTree → Type 0
   FreeFits v es e = (ls : List Local) → scopes_of ls ≡ scopes_in es → (w : PoolMap) (b : ℤ)
-      → free_object k.tables ls w e b
-      ≡ free_in w (struct_kind_at k.tables (pointed_struct (type_of k.tables v.scopes e))) b
+      → struct_slot w (option_map (number_at k.tables) (struct_pointed_by k.tables ls e)) b
+      ≡ slot_of w (struct_kind_at k.tables (pointed_struct (type_of k.tables v.scopes e))) b
 
   abbrev pub SimpleFits : Variables → List Entry → SimpleTree → Type 0
   SimpleFits v es (stmt.Assign target o place value) = TargetFits v es (variable_of target) target

@@ -27,7 +27,7 @@ use Rattle.c_types.specs.Shapes.{field_shape, root_fields, shapes_in}
 use Rattle.c_types.specs.Declarations.{length_broken, field_broken, fields_broken}
 use Rattle.c_types.specs.Expressions.{member_broken, root_broken, arrow_broken, pointer_broken}
 use Rattle.c_types.proofs.Unbroken.{none_left, none_right, holds}
-use Rattle.pool_map.specs.PoolMap.{PoolMap, least_free, free}
+use Rattle.pool_map.specs.PoolMap.{PoolMap, least_free}
 use Rattle.pool_map.specs.PoolFits as pool
 use Rattle.pool_map.specs.PoolFits.{words_of_field}
 use Rattle.pool_map.specs.declared.shapes.StructShape.{StructShape}
@@ -44,9 +44,11 @@ use Rattle.lower.specs.Names.{root_target, field_target}
 use Rattle.lower.proofs.Sane.{IsSane, is_pointed, pointed_words, kind_of_struct}
 use Rattle.lower.proofs.GoodTypes.{IsGood, member_there, pointer_good}
 use Rattle.code_meaning.specs.Code as code
-use Rattle.code_meaning.specs.Code.{spot_of, fields_of, new_in, free_in}
-use Rattle.lower_law.proofs.Typed.{slot_same, field_same, field_length, before_same, before_small}
-use Rattle.lower_law.proofs.Typed.{FieldThere, field_there}
+use Rattle.code_meaning.specs.Code.{spot_of, fields_of, new_in}
+use Rattle.lower_law.proofs.names.Fits.{NewFits}
+use Rattle.lower_law.proofs.names.Typed.{slot_same, field_same, field_length, before_same}
+use Rattle.lower_law.proofs.names.Typed.{before_small}
+use Rattle.lower_law.proofs.names.Typed.{FieldThere, field_there}
 
 zero_plus : (n : ℕ) → 0 + n ≡ n
 zero_plus n = omega arith
@@ -291,10 +293,10 @@ words_same t names i (f ∷ fs) e =
     sum_by-cons words_of_field (field_shape f) (map field_shape fs) in
     rw (sum, first, here, later) refl
 
--- a new object
-pub new_word : (t : Tables) (name : Ident) (w : PoolMap) → IsSane t → pointer_broken t name ≡ []
-    → access.new_object t w name.text ≡ new_in (shapes_in t) w (kind_named t name.text)
-new_word t name w h e =
+-- a struct of which objects are made
+pub new_parts : (t : Tables) (name : Ident) → IsSane t → pointer_broken t name ≡ []
+    → NewFits t (shapes_in t) name.text
+new_parts t name h e =
     let g = pointer_good t name e in
     let i : ℕ = g.0 in
     let s : StructTree = g.1 in
@@ -312,35 +314,27 @@ new_word t name w h e =
     ∙ ap (λ (fs : List FieldShape). pool.words_of fs) (sym (kind_fields t i s h g.3 g.4))
     ∙ ap (λ (o : Option ℕ). pool.words_of (fields_of (shapes_in t) (struct_kind_at t o)))
     (sym g.2) in
-    ap (λ (o : Option ℕ). option_map_or
-    (λ i. new_at w (number_at t i) (words_at t i) (least_free w)) o (pos 0, w)) g.2
-    ∙ ap (λ (n : ℕ). new_at w n (words_at t i) (least_free w)) (sym kind)
-    ∙ ap (λ (n : ℕ). new_at w (kind_named t name.text) n (least_free w)) words
-    ∙ new_same w (kind_named t name.text)
-    (pool.words_of (fields_of (shapes_in t) (kind_named t name.text))) (least_free w)
+    record { place = i; named = g.2; kind = sym kind; words = words }
   where
     uncut : (n : ℕ) → min n (2 ^ 64 - 1) ≤ OBJECT_WORDS → min n (2 ^ 64 - 1) ≡ n
     uncut n le = omega (arith, le)
 
-    new_same : (w : PoolMap) (kind words : ℕ) (o : Option ℕ)
-        → new_at w kind words o ≡ new_at w kind words o
-    new_same w kind words None = refl
-    new_same w kind words (Some s) = refl
+-- a new object
+pub new_word : (t : Tables) (name : Ident) (w : PoolMap) → IsSane t → pointer_broken t name ≡ []
+    → access.new_object t w name.text ≡ new_in (shapes_in t) w (kind_named t name.text)
+new_word t name w h e =
+    let fits : NewFits t (shapes_in t) name.text = new_parts t name h e in
+    ap (λ (o : Option ℕ). option_map_or
+    (λ i. new_at w (number_at t i) (words_at t i) (least_free w)) o (pos 0, w)) fits.named
+    ∙ ap (λ (n : ℕ). new_at w n (words_at t fits.place) (least_free w)) fits.kind
+    ∙ ap (λ (n : ℕ). new_at w (kind_named t name.text) n (least_free w)) fits.words
 
--- a freed object
-pub free_word : (t : Tables) (ty : ValueType) (w : PoolMap) (b : ℤ) → IsSane t → IsGood t ty
-    → is_pointer ty ≡ true
-    → then_on (access.struct_slot w (option_map (number_at t) (pointed_struct ty)) b)
-    (λ s. Ok (free w s)) ≡ free_in w (struct_kind_at t (pointed_struct ty)) b
-free_word t (Pointer i) w b h g e =
-    ap (λ (o : Result ℕ TrapKind). then_on o (λ s. Ok (free w s)))
-    (slot_same w (number_at t i) b ∙ ap (λ n. code.slot_of w n b) (sym (kind_same t i h)))
-    ∙ freed (code.slot_of w (struct_kind_at t (Some i)) b)
-  where
-    freed : (o : Result ℕ TrapKind) → then_on o (λ s. Ok (free w s))
-        ≡ then_on o (λ s. Ok (free w s))
-    freed (Ok s) = refl
-    freed (Err k) = refl
-free_word t (Int n) w b h g e = absurd (false≢true e)
-free_word t Null w b h g e = absurd (false≢true e)
-free_word t Any w b h g e = absurd g
+-- the slot of a freed object
+pub freed_slot : (t : Tables) (ty : ValueType) (w : PoolMap) (b : ℤ) → IsSane t → IsGood t ty
+    → is_pointer ty ≡ true → access.struct_slot w (option_map (number_at t) (pointed_struct ty)) b
+    ≡ code.slot_of w (struct_kind_at t (pointed_struct ty)) b
+freed_slot t (Pointer i) w b h g e =
+    slot_same w (number_at t i) b ∙ ap (λ n. code.slot_of w n b) (sym (kind_same t i h))
+freed_slot t (Int n) w b h g e = absurd (false≢true e)
+freed_slot t Null w b h g e = absurd (false≢true e)
+freed_slot t Any w b h g e = absurd g

@@ -40,16 +40,18 @@ use Rattle.lower.proofs.Sane.{IsSane, sane, broken_functions, function_at_place}
 use Rattle.lower.proofs.GoodTypes.{IsGood, declared_good}
 use Rattle.lower.proofs.Alike.{IsSame, Alike, alike_same, alike_declared, value_same, or_same}
 use Rattle.lower.proofs.Alike.{simple_same, third_same}
-use Rattle.lower_law.proofs.Locals.{Entry}
-use Rattle.lower_law.proofs.Declared.{HasLevel, agrees_declared, level_declared}
-use Rattle.lower_law.proofs.Typed.{call_fits}
-use Rattle.lower_law.proofs.ExpFits.{Sees, value_fits, arguments_fit, target_fits, free_fits}
-use Rattle.lower_law.proofs.Fits.{ExpFits}
-use Rattle.lower_law.proofs.StmtFits.{OrFits, SimpleFits, InitialFits, DeclarationFits, FirstFits}
-use Rattle.lower_law.proofs.StmtFits.{ThirdFits, StmtFits, StatementsFit, entry_in, first_entries}
-use Rattle.lower_law.proofs.StmtFits.{entries_after}
-use Rattle.lower_law.proofs.Functions.{parameter_entry, parameter_entries, ParametersFit}
-use Rattle.lower_law.proofs.Functions.{FunctionFits, ProgramFits, stands_in}
+use Rattle.lower_law.proofs.locals.Locals.{Entry}
+use Rattle.lower_law.proofs.names.Declared.{HasLevel, agrees_declared, level_declared}
+use Rattle.lower_law.proofs.names.Typed.{call_fits}
+use Rattle.lower_law.proofs.names.ExpFits.{Sees, value_fits, arguments_fit, target_fits, free_fits}
+use Rattle.lower_law.proofs.names.Fits.{ExpFits}
+use Rattle.lower_law.proofs.names.StmtFits.{OrFits, SimpleFits, InitialFits, DeclarationFits}
+use Rattle.lower_law.proofs.names.StmtFits.{FirstFits}
+use Rattle.lower_law.proofs.names.StmtFits.{ThirdFits, StmtFits, StatementsFit, entry_in}
+use Rattle.lower_law.proofs.names.StmtFits.{first_entries}
+use Rattle.lower_law.proofs.names.StmtFits.{entries_after}
+use Rattle.lower_law.proofs.runs.Functions.{parameter_entry, parameter_entries, ParametersFit}
+use Rattle.lower_law.proofs.runs.Functions.{FunctionFits, ProgramFits, stands_in}
 
 -- in the scopes of the typing rules each name means what it means to the code, and what is new
 -- there is new in the code

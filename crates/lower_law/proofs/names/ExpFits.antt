@@ -1,8 +1,7 @@
 -- The names of an expression that breaks no rule fit.
-use Rattle.std.proofs.Common.{◌≡◌, ℕ, suc, ◌+◌, ◌<◌, Bool, true, false, List, [], ◌∷◌, refl, sym}
-use Rattle.std.proofs.Common.{ap, ◌∙◌, subst, arith}
-use Rattle.std.specs.Prelude.{Option, None, Some, Ok, is_some, if◌then◌else◌, option_map}
-use Rattle.std.specs.Prelude.{option_and_then, slice_get, bytes_eq}
+use Rattle.std.proofs.Common.{◌≡◌, ℕ, ◌+◌, ◌<◌, Bool, true, false, List, [], ◌∷◌, refl, sym, ap}
+use Rattle.std.proofs.Common.{◌∙◌, subst, arith}
+use Rattle.std.specs.Prelude.{Option, None, Some, is_some, if◌then◌else◌, option_map, bytes_eq}
 use Rattle.std.proofs.lemmas.Bool.{false≢true}
 use Rattle.c_tree.specs.ExprTree as expr
 use Rattle.c_tree.specs.ExprTree.{ExprTree, Arguments, Ident}
@@ -14,30 +13,27 @@ use Rattle.c_types.specs.Broken.{unless}
 use Rattle.c_types.specs.Fits.{type_takes, is_pointer}
 use Rattle.c_types.specs.Tables.{Tables, function_named, number_at, pointed_struct}
 use Rattle.c_types.specs.Shapes.{shapes_in}
-use Rattle.c_types.specs.Expressions.{variable_type, kind_of, type_of, broken_in}
-use Rattle.c_types.specs.Expressions.{broken_in_all, value_broken, call_broken, parameters_of}
-use Rattle.c_types.specs.Expressions.{parameter_type, argument_count, root_broken, arrow_broken}
+use Rattle.c_types.specs.Expressions.{variable_type, kind_of, type_of, broken_in, broken_in_all}
+use Rattle.c_types.specs.Expressions.{value_broken, call_broken, parameters_of, parameter_type}
+use Rattle.c_types.specs.Expressions.{argument_count, root_broken, arrow_broken}
 use Rattle.c_types.specs.Statements.{is_target}
 use Rattle.c_types.proofs.Unbroken.{none_left, none_right, holds}
 use Rattle.pool_map.specs.declared.shapes.Shapes.{Shapes}
-use Rattle.pool_map.specs.PoolMap.{free}
-use Rattle.pool_map.specs.Checks.{then_on}
 use Rattle.c_meaning.specs.Access as access
 use Rattle.ir.specs.declared.function.Ir.{Ir}
 use Rattle.lower.specs.Names.{Variables, LocalRegister, variable_of, root_target, field_target}
-use Rattle.lower.specs.Names.{kind_named}
 use Rattle.lower.specs.Lowers.{Context, exp_end, reg_of}
 use Rattle.lower.proofs.Sane.{IsSane}
 use Rattle.lower.proofs.GoodTypes.{IsGood, IsGoodKind, Agree, kind_good, value_good, indexed_array}
 use Rattle.lower.proofs.Alike.{IsSame, kind_same, broken_same}
 use Rattle.lower.proofs.ExprSound.{arrow_parts, index_parts, value_array}
-use Rattle.code_meaning.specs.Code.{spot_of, new_in}
-use Rattle.lower_law.proofs.Locals.{Entry, Agrees, entry_type, entry_register, scopes_in}
-use Rattle.lower_law.proofs.Sides.{scopes_same, type_met}
-use Rattle.lower_law.proofs.Fits.{FieldFits, ExpFits, PointerFits, ArgumentsFit}
-use Rattle.lower_law.proofs.StmtFits.{TargetFits, FreeFits}
-use Rattle.lower_law.proofs.Typed.{call_fits}
-use Rattle.lower_law.proofs.Fields.{root_word, arrow_word, new_word, free_word}
+use Rattle.code_meaning.specs.Code.{spot_of}
+use Rattle.lower_law.proofs.locals.Locals.{Entry, Agrees, entry_type, entry_register, scopes_in}
+use Rattle.lower_law.proofs.locals.Sides.{scopes_same, type_met}
+use Rattle.lower_law.proofs.names.Fits.{NewFits, FieldFits, ExpFits, PointerFits, ArgumentsFit}
+use Rattle.lower_law.proofs.names.StmtFits.{TargetFits, FreeFits}
+use Rattle.lower_law.proofs.names.Typed.{call_fits}
+use Rattle.lower_law.proofs.names.Fields.{root_word, arrow_word, new_parts, freed_slot}
 
 -- the types of the entries are good
 abbrev pub AreGood : Tables → List Entry → Type 0
@@ -126,8 +122,8 @@ module _ (k : Context) (ir : Ir) (sane : IsSane k.tables) (shaped : ir.shapes �
               (none_right (call_broken true f (argument_count all) name.place) _ b),
         )
     exp_fits (expr.Root name) b = root_fits name b
-    exp_fits (expr.New place name) b = λ w. new_word k.tables name w sane b
-        ∙ ap (λ (x : Shapes). new_in x w (kind_named k.tables name.text)) (sym shaped)
+    exp_fits (expr.New place name) b = subst (λ (x : Shapes). NewFits k.tables x name.text)
+        (sym shaped) (new_parts k.tables name sane b)
     exp_fits (expr.Arrow base place name) b =
         let parts = arrow_parts k.tables v.scopes base place name b in
         (exp_fits base (own base parts.0), arrow_fits base place name parts.0 parts.1)
@@ -204,7 +200,7 @@ module _ (k : Context) (ir : Ir) (sane : IsSane k.tables) (shaped : ir.shapes �
   pub free_fits : (e : ExprTree) → value_broken k.tables v.scopes e ≡ []
       → is_pointer (type_of k.tables v.scopes e) ≡ true → FreeFits k ir v es e
   free_fits e b pointer ls is w c =
-      ap (λ (y : ValueType). then_on
-      (access.struct_slot w (option_map (number_at k.tables) (pointed_struct y)) c)
-      (λ s. Ok (free w s))) (type_met k.tables v es ls sees.agrees is e)
-      ∙ free_word k.tables (type_of k.tables v.scopes e) w c sane (type_is_good e b) pointer
+      ap (λ (y : ValueType).
+      access.struct_slot w (option_map (number_at k.tables) (pointed_struct y)) c)
+      (type_met k.tables v es ls sees.agrees is e)
+      ∙ freed_slot k.tables (type_of k.tables v.scopes e) w c sane (type_is_good e b) pointer

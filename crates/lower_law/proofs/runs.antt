@@ -1,0 +1,9 @@
+pub mod Paths
+pub mod Has
+pub mod ExprSteps
+pub mod ExprRuns
+pub mod StmtSteps
+pub mod SimpleRuns
+pub mod StmtRuns
+pub mod Functions
+pub mod Entries
