@@ -14,7 +14,7 @@ use Rattle.cnvm_session.specs.AnswerText.{answer_text}
 use Rattle.cnvm_session.specs.Pool.{sizes_of}
 use Rattle.session_law.specs.Law.{IsWordCommand, super_words}
 use Rattle.session_law.specs.Ran.{Ran, fresh_moment}
-use Rattle.session_law.proofs.Chains.{ran_append}
+use Rattle.session_law.proofs.chains.Chains.{ran_append}
 use Rattle.session_law.proofs.Scripts.{script_words}
 use Rattle.user_law.specs.Run.{TextMeaning, IsUserRun}
 use Rattle.text_law.specs.Law.{IsOfText}

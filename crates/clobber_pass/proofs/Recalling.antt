@@ -30,9 +30,9 @@ use Rattle.clobber_pass.specs.inside.Flow.{waits}
 use Rattle.clobber_pass.specs.inside.Calling.{IsCalled, edges_at, edges_in, edges_from, woken}
 use Rattle.clobber_pass.specs.inside.Calling.{all_called, Apart, CallsOthers, EndedAlone}
 use Rattle.clobber_pass.specs.inside.Calling.{ColumnsAlone, Passing}
-use Rattle.clobber_pass.proofs.Joins.{exits_of_other}
-use Rattle.clobber_pass.proofs.Columns.{exits_of_set}
-use Rattle.clobber_pass.proofs.Flowing.{grows_join}
+use Rattle.clobber_pass.proofs.bits.Joins.{exits_of_other}
+use Rattle.clobber_pass.proofs.derived.Columns.{exits_of_set}
+use Rattle.clobber_pass.proofs.derived.Flowing.{grows_join}
 use Rattle.clobber_pass.proofs.Waking.{waits_kept, waits_set, waits_other}
 
 -- the functions that a code calls have the same exits

@@ -13,7 +13,7 @@ use Rattle.ir.specs.declared.instruction.Target.TheVariants.{Root, Field}
 use Rattle.clobber_pass.specs.declared.classes.Stored.{Stored}
 use Rattle.clobber_pass.specs.inside.Classes.{Has, Keeps, HasTarget, KeepsStored, HasIn, HasAll}
 use Rattle.clobber_pass.specs.inside.Classes.{HasStore}
-use Rattle.clobber_pass.proofs.Rounds.{below_next}
+use Rattle.clobber_pass.proofs.bits.Rounds.{below_next}
 
 last_of : {T : Type 0} (items : List T) (item : T) → Has (items ++ item ∷ []) item
 last_of items item = record { at = length items; is = get_last items item }

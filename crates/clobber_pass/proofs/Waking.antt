@@ -8,7 +8,7 @@ use mathlib.Core.Logic.{◌⊎◌}
 use Rattle.clobber_pass.specs.Sweep.{row_in}
 use Rattle.clobber_pass.specs.inside.Sweep.{row_joined, join_in}
 use Rattle.clobber_pass.specs.inside.Flow.{waits, Wakes}
-use Rattle.clobber_pass.proofs.Joins.{row_in_set}
+use Rattle.clobber_pass.proofs.bits.Joins.{row_in_set}
 
 pub wakes_none : (waiting : List Bool) (entries : List (List ℕ))
     → Wakes waiting waiting entries entries

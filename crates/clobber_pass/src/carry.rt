@@ -126,7 +126,7 @@ fn past_call_in(
 }
 
 /// The words of a call's arguments come to the place after it, each slot once.
-#[tactic(auto, using(crate::proofs::Carrying::carried))]
+#[tactic(auto, using(crate::proofs::derived::Carrying::carried))]
 fn past_call_in_args(
     exits: &Tables,
     function: usize,
@@ -167,7 +167,7 @@ fn is_apart(slot: usize, to: usize, args: &[u32]) -> bool {
 }
 
 /// Takes a word through a call. The row is all zeros before and afterwards.
-#[tactic(auto, using(crate::proofs::Carrying::carried))]
+#[tactic(auto, using(crate::proofs::derived::Carrying::carried))]
 fn past_call(
     exits: &Tables,
     function: usize,
@@ -221,7 +221,7 @@ fn lead_on(
 }
 
 /// Takes a word through the instruction of its place, to the next place.
-#[tactic(auto, using(crate::proofs::Carrying::carried))]
+#[tactic(auto, using(crate::proofs::derived::Carrying::carried))]
 fn pass(
     topic: Topic<'_>,
     exits: &Tables,

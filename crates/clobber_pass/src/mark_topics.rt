@@ -15,7 +15,7 @@ use ir::Ir;
 use std::alloc::{AllocError, Global};
 
 /// Marks 16 fields of the root, from the first one on.
-#[tactic(auto, using(crate::proofs::AllTopics::root_marked))]
+#[tactic(auto, using(crate::proofs::marked::AllTopics::root_marked))]
 fn mark_root(
     alloc: Global,
     ir: &Ir,
@@ -57,7 +57,7 @@ pub fn mark_roots(
 }
 
 /// Marks the first 16 fields of a list.
-#[tactic(auto, using(crate::proofs::AllTopics::topic_marked))]
+#[tactic(auto, using(crate::proofs::marked::AllTopics::topic_marked))]
 fn mark_some(
     alloc: Global,
     ir: &Ir,

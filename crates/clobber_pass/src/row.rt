@@ -8,7 +8,7 @@ ghost use Rattle.clobber_pass.specs.inside.Row as inside_rows;
 use crate::topic::{StructField, TOPIC_FIELDS};
 
 /// The word of a slot, or 0 if there is none.
-#[tactic(auto, using(crate::proofs::Lookup::lookup))]
+#[tactic(auto, using(crate::proofs::bits::Lookup::lookup))]
 pub fn word(row: &[u16], slot: usize) -> u16
     ensures { result ≡ rows.word row.now slot }
 {
@@ -16,7 +16,7 @@ pub fn word(row: &[u16], slot: usize) -> u16
 }
 
 /// Writes the word of a slot, if there is one.
-#[tactic(auto, using(crate::proofs::Bits::set_past))]
+#[tactic(auto, using(crate::proofs::bits::Bits::set_past))]
 pub fn put(row: &mut [u16], slot: usize, word: u16)
     ensures { row.new ≡ slice_set row.old slot word }
 {

@@ -63,7 +63,7 @@ impl Rows {
     }
 
     /// The row of a place, empty if there is none.
-    #[tactic(auto, using(crate::proofs::Lookup::lookup))]
+    #[tactic(auto, using(crate::proofs::bits::Lookup::lookup))]
     pub fn row(&self, place: usize) -> &[u16]
         ensures { result.now ≡ sweeps.row_in self.now place }
     {
@@ -156,7 +156,7 @@ fn join_words(row: &mut [u16], more: &[u16]) -> bool
 }
 
 /// Adds bits to a word. Returns whether any was new.
-#[tactic(auto, using(crate::proofs::Rooms::raising))]
+#[tactic(auto, using(crate::proofs::bits::Rooms::raising))]
 fn raise(row: &mut [u16], slot: usize, bits: u16) -> bool
     requires { slot < length row.old }
     ensures row { row.new ≡ slice_set row.old slot (bit_or (words.word row.old slot) bits) }
@@ -174,7 +174,7 @@ fn raise(row: &mut [u16], slot: usize, bits: u16) -> bool
 }
 
 /// Adds bits to the word of a slot, if there is one. Returns whether any was new.
-#[tactic(auto, using(crate::proofs::Bits::set_past))]
+#[tactic(auto, using(crate::proofs::bits::Bits::set_past))]
 fn raise_in(row: &mut [u16], slot: usize, bits: u16) -> bool
     ensures row { row.new ≡ slice_set row.old slot (bit_or (words.word row.old slot) bits) }
     ensures room { words_room row.new ≤ words_room row.old }

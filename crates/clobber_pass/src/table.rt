@@ -84,7 +84,7 @@ fn mark_reached(
 }
 
 /// Marks for a topic one function. No walk reaches a function whose entry has no row.
-#[tactic(auto, using(crate::proofs::Tabled::keeps_all))]
+#[tactic(auto, using(crate::proofs::marked::Tabled::keeps_all))]
 fn mark_function(
     alloc: Global,
     ir: &Ir,

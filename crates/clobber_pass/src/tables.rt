@@ -28,7 +28,7 @@ impl Model for Tables {
 
 impl Tables {
     /// A word of a function's row, or 0 if there is none.
-    #[tactic(auto, using(crate::proofs::Lookup::lookup))]
+    #[tactic(auto, using(crate::proofs::bits::Lookup::lookup))]
     pub fn word(&self, function: usize, row: usize, slot: usize) -> u16
         ensures { result ≡ inside_sweeps.exit (inside_sweeps.exits_of self.now function) row slot }
     {
@@ -39,7 +39,7 @@ impl Tables {
     }
 
     /// Joins another row to a row of a function. Returns whether it grew.
-    #[tactic(auto, using(crate::proofs::Rooms::all_rooms))]
+    #[tactic(auto, using(crate::proofs::bits::Rooms::all_rooms))]
     pub fn join(
         &mut self,
         alloc: Global,
@@ -73,7 +73,7 @@ impl Tables {
     }
 
     /// The table of a function.
-    #[tactic(auto, using(crate::proofs::Lookup::lookup))]
+    #[tactic(auto, using(crate::proofs::bits::Lookup::lookup))]
     pub fn table(&self, function: usize) -> Option<&Rows>
         ensures { option_map (λ t. t.now) result ≡ slice_get self.now function }
     {

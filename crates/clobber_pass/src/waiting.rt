@@ -21,7 +21,7 @@ pub fn waiting_at(alloc: Global, entries: &Rows, count: usize) -> Result<Vec<boo
 }
 
 /// Notes that a function has to be swept again.
-#[tactic(auto, using(crate::proofs::Bits::set_past))]
+#[tactic(auto, using(crate::proofs::bits::Bits::set_past))]
 pub fn wake(waiting: &mut [bool], function: usize)
     ensures { waiting.new ≡ slice_set waiting.old function true }
 {

@@ -29,9 +29,9 @@ use Rattle.session_law.specs.Answers.{Powers}
 use Rattle.session_law.specs.Holds.{HoldsPool, IsResting, OwesNone, HoldsAs, Holds, HeldAs}
 use Rattle.session_law.specs.Ran.{Moment}
 use Rattle.session_law.specs.State.{Standing, Ready, Down, Unusable, SourceState}
-use Rattle.session_law.proofs.Ones.{rest_images}
-use Rattle.session_law.proofs.Powers.{held_recovers}
-use Rattle.session_law.proofs.Resting.{resting_owes}
+use Rattle.session_law.proofs.images.Ones.{rest_images}
+use Rattle.session_law.proofs.answers.Powers.{held_recovers}
+use Rattle.session_law.proofs.images.Resting.{resting_owes}
 use Rattle.file_law.specs.Moved.{is_digest_word, moved_words, AreBetween, HasDigest, IsMoveCut}
 use Rattle.file_law.specs.Moved.{IsMended, MovingReopenLaw}
 use Rattle.file_law.proofs.Moves.{digest_word}

@@ -32,8 +32,8 @@ use Rattle.cnvm_session.specs.Moving.{is_recovered, moving_events}
 use Rattle.cnvm_session.specs.Pool.{sizes_of}
 use Rattle.session_law.specs.Holds.{HoldsPool, IsResting, HoldsAs}
 use Rattle.session_law.specs.State.{Standing, Ready, Down, Unusable, SourceState}
-use Rattle.session_law.proofs.Reading.{is_marked, is_unsealed}
-use Rattle.session_law.proofs.Resting.{resting_owes}
+use Rattle.session_law.proofs.images.Reading.{is_marked, is_unsealed}
+use Rattle.session_law.proofs.images.Resting.{resting_owes}
 use Rattle.file_law.specs.Moved.{with_digest, moved_words, HasShapesOf}
 use Rattle.file_law.specs.Moved.{MovesPart, AreBetween, IsUnowed, MovedLaw, MovingCutLaw}
 use Rattle.file_law.specs.Moved.{UnowedLaw}

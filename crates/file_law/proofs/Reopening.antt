@@ -28,10 +28,10 @@ use Rattle.cnvm_session.proofs.Writing.{written_word, written_rest}
 use Rattle.session_law.specs.Answers.{Powers}
 use Rattle.session_law.specs.Holds.{HoldsAs, OwesNone, OwesBy, HeldAs}
 use Rattle.session_law.specs.State.{Pending, Standing, Ready, Down, Unusable, SourceState}
-use Rattle.session_law.proofs.Ones.{rest_images}
+use Rattle.session_law.proofs.images.Ones.{rest_images}
 use Rattle.pmem.proofs.Refused.{all_cache, all_on}
-use Rattle.session_law.proofs.Powers.{held_recovers}
-use Rattle.session_law.proofs.Resting.{resting_owes}
+use Rattle.session_law.proofs.answers.Powers.{held_recovers}
+use Rattle.session_law.proofs.images.Resting.{resting_owes}
 use Rattle.file_law.specs.Law.{ReopenLaw}
 
 -- what holds of each image of the one device holds of each image of the other

@@ -162,7 +162,7 @@ module _ (former new : Program) (none : first_other former.typed new.typed ≡ N
     structs = begun.shapes;
   }
 
-  -- the structs that come behind have no more words than a slot of the former program has room for
+  -- the structs that come after have no more words than a slot of the former program has room for
   module _ (checked : breaks new.typed ≡ []) where
     few_words : (k : ℕ) (s : StructTree) → slice_get begun.more k ≡ Some s
         → nat_le (words_of_struct s) room ≡ true → words_of (map field_shape s.fields) ≤ room

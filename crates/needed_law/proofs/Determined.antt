@@ -24,7 +24,7 @@ use Rattle.session_law.specs.Answers.{Refused, RunsBy, Looks, RunsAs, CallsWith,
 use Rattle.session_law.specs.Answers.{CallsNamed, Calls, Tells, Shows, ShowsDead, Lasts}
 use Rattle.session_law.specs.Answers.{ConcludesAs, IsConcluded, FindsOf, FindsOwed, Rests}
 use Rattle.session_law.specs.Answers.{RedoesBy, Recovers, IsMarked, Powers}
-use Rattle.session_law.proofs.Logging.{one_outcome}
+use Rattle.session_law.proofs.logs.Logging.{one_outcome}
 use Rattle.needed_law.specs.AnswerKind.{AnswerKind, Meant, CutOff, FaultCame, NoRoom, AtLimit}
 use Rattle.needed_law.specs.AnswerKind.{UnfitPick, answer_kind}
 use Rattle.needed_law.specs.Answered.{OneAnswerLaw}

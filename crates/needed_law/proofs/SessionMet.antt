@@ -11,7 +11,7 @@ use Rattle.args_log.specs.Created.{creation_events}
 use Rattle.cnvm_session.specs.declared.answer.Answer.TheVariants as answer
 use Rattle.cnvm_session.specs.Pool.{sizes_of}
 use Rattle.session_law.specs.Ran.{fresh_moment}
-use Rattle.session_law.proofs.Creating.{created_rests}
+use Rattle.session_law.proofs.answers.Creating.{created_rests}
 use Rattle.needed_law.specs.MetSession.{calm_device, SessionMetLaw}
 
 may_take : (d : Device) → d.on ≡ true → d.left ≡ None → d.armed ≡ Some None → MayTakeEvent d

@@ -35,7 +35,7 @@ use Rattle.ir.specs.WellFormed.{struct_of}
 use Rattle.lower.specs.Names.{struct_kind_at, kind_named}
 use Rattle.lower.proofs.Sane.{IsSane, IsKindOf, index_of_in, kind_of_struct}
 use Rattle.code_meaning.specs.Code.{fields_of}
-use Rattle.lower_law.proofs.Fields.{new_word, numbered_few}
+use Rattle.lower_law.proofs.names.Fields.{new_word, numbered_few}
 use Rattle.rules_law.specs.typed.Types.{StaticType, Number, PointerTo, NullPointer, value_type}
 use Rattle.rules_law.specs.typed.Types.{IsPointer, IsWritten, HasValueField, HasArray}
 use Rattle.rules_law.specs.typed.Programs.{IsWellTyped}

@@ -25,8 +25,8 @@ use Rattle.c_meaning.specs.Access.{first_word, field_elements, word_in_struct}
 use Rattle.lower.proofs.Sane.{IsSane}
 use Rattle.lower.proofs.Sane as sane
 use Rattle.code_meaning.specs.Code.{words_before}
-use Rattle.lower_law.proofs.Typed.{before_same, before_small, field_same, field_length}
-use Rattle.lower_law.proofs.Typed.{FieldThere, field_there}
+use Rattle.lower_law.proofs.names.Typed.{before_same, before_small, field_same, field_length}
+use Rattle.lower_law.proofs.names.Typed.{FieldThere, field_there}
 use Rattle.rules_law.specs.typed.Programs.{IsStruct}
 use Rattle.sound_law.specs.Places.{IndexFits, HasMember}
 

@@ -28,8 +28,8 @@ use Rattle.cnvm_session.specs.Pool.{sizes_of}
 use Rattle.session_law.specs.State.{Pending}
 use Rattle.session_law.specs.State as session
 use Rattle.session_law.specs.Holds.{HoldsPool, HoldsAs, OwesBy}
-use Rattle.session_law.proofs.Ones.{rest_one}
-use Rattle.session_law.proofs.Heaps.{pool_same}
+use Rattle.session_law.proofs.images.Ones.{rest_one}
+use Rattle.session_law.proofs.images.Heaps.{pool_same}
 use Rattle.user_law.specs.Source.{Logs}
 use Rattle.user_law.specs.State.{UserStanding, Ready, Idle, Owed, Unusable, UserState}
 use Rattle.user_law.specs.Keeps.{HasState, IsOwedAt, UserKeepsAs}

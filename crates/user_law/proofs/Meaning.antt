@@ -27,7 +27,7 @@ use Rattle.session_law.specs.Answers as machine
 use Rattle.session_law.specs.Source.{source_parameters, ComesBy}
 use Rattle.session_law.specs.State.{Pending, SourceState}
 use Rattle.session_law.specs.State as session
-use Rattle.session_law.proofs.Logging.{one_outcome}
+use Rattle.session_law.proofs.logs.Logging.{one_outcome}
 use Rattle.user_law.specs.Source.{Source, Logs, rolls_back, comes_to, gives_unsigned}
 use Rattle.user_law.specs.State.{UserStanding, Ready, Idle, Owed, Unusable, UserState, stands_as}
 use Rattle.user_law.specs.State.{state_after}

@@ -34,7 +34,7 @@ use Rattle.pool_map.specs.declared.trap.TrapKind.TheVariants.{LogFull}
 use Rattle.cnvm_script.specs.declared.command.Command.TheVariants as command
 use Rattle.cnvm_session.specs.declared.answer.Answer.TheVariants as answer
 use Rattle.session_law.specs.Ran.{found_by}
-use Rattle.session_law.proofs.Ones.{rest_one, left_rest}
+use Rattle.session_law.proofs.images.Ones.{rest_one, left_rest}
 use Rattle.user_law.specs.Source.{Source, pool_of_image, comes_to}
 use Rattle.user_law.specs.State.{Ready, Idle, Owed, UserState, stands_as, state_after, first_state}
 use Rattle.user_law.specs.Answers.{call_told, call_told_by, recovery_told, finished}

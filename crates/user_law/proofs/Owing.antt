@@ -27,7 +27,7 @@ use Rattle.session_law.specs.Holds.{HoldsAs, Holds}
 use Rattle.session_law.specs.Ran.{found_by}
 use Rattle.session_law.specs.Law.{IsWordCommand}
 use Rattle.session_law.specs.Law as session_law
-use Rattle.session_law.proofs.Phases.{stopped_phase}
+use Rattle.session_law.proofs.chains.Phases.{stopped_phase}
 use Rattle.user_law.specs.Source.{Source, Logs, rolls_back, looks, comes_to, number_named}
 use Rattle.user_law.specs.Source.{arity_of}
 use Rattle.user_law.specs.State.{UserStanding, Ready, Idle, Owed, Unusable, UserState, stands_as}

@@ -53,7 +53,7 @@ use Rattle.cnvm_session.specs.Pool.{sizes_of}
 use Rattle.session_law.specs.Holds.{HoldsAs}
 use Rattle.session_law.specs.State as session
 use Rattle.session_law.specs.State.{SourceState}
-use Rattle.session_law.proofs.Dead.{told_dead}
+use Rattle.session_law.proofs.answers.Dead.{told_dead}
 use Rattle.user_law.specs.Played.{prepared, PlaysAs}
 use Rattle.user_law.specs.Seen.{PlayedLaw}
 use Rattle.user_law.proofs.Counting.{most_events, call_few, clean_few, redo_few}

@@ -17,9 +17,9 @@ use Rattle.session_law.specs.Agrees.{Agrees}
 use Rattle.session_law.specs.State.{Pending, Standing, Down, SourceState}
 use Rattle.session_law.specs.Answers.{HasSeal}
 use Rattle.session_law.specs.Holds.{Holds, HeldAs}
-use Rattle.session_law.proofs.Ones.{left_rest}
-use Rattle.session_law.proofs.PowerPhases.{from_owed}
-use Rattle.session_law.proofs.Powers.{left_held}
+use Rattle.session_law.proofs.images.Ones.{left_rest}
+use Rattle.session_law.proofs.chains.PowerPhases.{from_owed}
+use Rattle.session_law.proofs.answers.Powers.{left_held}
 use Rattle.user_law.specs.Stays as user
 use Rattle.user_law.specs.Seen.{SealKeptLaw}
 

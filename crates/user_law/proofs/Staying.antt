@@ -19,7 +19,7 @@ use Rattle.cnvm_session.specs.Laws.{IsBadPick}
 use Rattle.session_law.specs.State.{Pending}
 use Rattle.session_law.specs.History.{call_to}
 use Rattle.session_law.specs.Ran.{found_by}
-use Rattle.session_law.proofs.Ones.{at_left}
+use Rattle.session_law.proofs.images.Ones.{at_left}
 use Rattle.user_law.specs.Source.{Source, rolls_back, comes_to, number_named}
 use Rattle.user_law.specs.State.{UserStanding, Ready, Idle, Owed, Unusable, UserState, stands_as}
 use Rattle.user_law.specs.State.{state_after}

@@ -21,7 +21,7 @@ use Rattle.session_law.specs.History.{recovered_by}
 use Rattle.session_law.specs.History.{done_by}
 use Rattle.session_law.specs.Law.{IsWordCommand}
 use Rattle.session_law.specs.Ran.{found_by, Moment, SessionStep}
-use Rattle.session_law.proofs.Histories.{answer_done}
+use Rattle.session_law.proofs.chains.Histories.{answer_done}
 use Rattle.user_law.specs.Source.{Source, Logs}
 use Rattle.user_law.specs.State.{UserStanding, Ready, Idle, Owed, Unusable, UserState}
 use Rattle.user_law.specs.History.{owed_in, subject_of, finished_by}

@@ -41,9 +41,9 @@ use Rattle.session_law.specs.State.{Pending, Ready, SourceState, standing_as}
 use Rattle.session_law.specs.Answers.{Looks}
 use Rattle.session_law.specs.Holds.{IsResting, OwesBy}
 use Rattle.session_law.proofs.Words.{held_words}
-use Rattle.session_law.proofs.Exact.{Recorded, run_recorded}
-use Rattle.session_law.proofs.Looking.{look_runs}
-use Rattle.session_law.proofs.Ones.{rest_images}
+use Rattle.session_law.proofs.logs.Exact.{Recorded, run_recorded}
+use Rattle.session_law.proofs.answers.Looking.{look_runs}
+use Rattle.session_law.proofs.images.Ones.{rest_images}
 use Rattle.workers_source_law.proofs.AtWork.{IsAtWork, NamesOr, KindOr, past_uncut, past_names}
 use Rattle.workers_source_law.proofs.AtWork.{past_kind, work_fenced}
 use Rattle.workers_source_law.proofs.Phases.{rest_lacks, rest_number}

@@ -65,11 +65,11 @@ use Rattle.session_law.specs.State.{done_with}
 use Rattle.session_law.specs.Answers.{IsDoneWith, TrapsAs}
 use Rattle.session_law.specs.Holds.{IsResting, OwesBy, Holds}
 use Rattle.session_law.proofs.Words.{held_words}
-use Rattle.session_law.proofs.Ones.{rest_one}
-use Rattle.session_law.proofs.Retired.{count_at}
-use Rattle.session_law.proofs.Reading.{numbers_small, stands_numbers}
-use Rattle.session_law.proofs.Calls.{call_runs}
-use Rattle.session_law.proofs.Exact.{Recorded, run_recorded}
+use Rattle.session_law.proofs.images.Ones.{rest_one}
+use Rattle.session_law.proofs.images.Retired.{count_at}
+use Rattle.session_law.proofs.images.Reading.{numbers_small, stands_numbers}
+use Rattle.session_law.proofs.answers.Calls.{call_runs}
+use Rattle.session_law.proofs.logs.Exact.{Recorded, run_recorded}
 use Rattle.workers_source_law.proofs.Stills.{still, AreFewer}
 use Rattle.workers_source_law.proofs.Stills.{rest_stands, rest_same}
 

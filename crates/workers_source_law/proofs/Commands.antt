@@ -46,9 +46,9 @@ use Rattle.session_law.specs.Agrees.{Agrees}
 use Rattle.session_law.specs.State.{Pending, Standing, Ready, Down, Unusable, SourceState}
 use Rattle.session_law.specs.State.{standing_as}
 use Rattle.session_law.specs.Holds.{IsResting, OwesBy, HeldAs}
-use Rattle.session_law.proofs.Heaps.{pool_same, shown_same, pool_fits}
-use Rattle.session_law.proofs.Ones.{at_view}
-use Rattle.session_law.proofs.Reading.{is_marked}
+use Rattle.session_law.proofs.images.Heaps.{pool_same, shown_same, pool_fits}
+use Rattle.session_law.proofs.images.Ones.{at_view}
+use Rattle.session_law.proofs.images.Reading.{is_marked}
 use Rattle.workers_source_law.specs.States.{States}
 use Rattle.workers_source_law.specs.Lines.{StartLines, TellsState, LinesMean}
 use Rattle.workers_source_law.specs.Law.{HasWordArgs, WorkerHolds, AllHold, PhasesHold}

@@ -21,7 +21,7 @@ use Rattle.cnvm_session.specs.Marks.{rolls_back_of}
 use Rattle.workers_session.specs.WorkersCommands.{Scene}
 use Rattle.session_law.specs.State.{Pending, Standing, Ready, Down, Unusable, SourceState}
 use Rattle.session_law.specs.Holds.{IsResting, OwesBy, HeldAs}
-use Rattle.session_law.proofs.Resting.{resting_owes}
+use Rattle.session_law.proofs.images.Resting.{resting_owes}
 use Rattle.workers_source_law.specs.States.{States, RestStays}
 use Rattle.workers_source_law.proofs.Stills.{still, own, fewer_fenced, marks_fenced, rest_fenced}
 use Rattle.workers_source_law.proofs.Stills.{fewer_held}

@@ -30,7 +30,7 @@ use Rattle.workers_session.specs.WorkersCommands.{Scene, scene_of}
 use Rattle.workers_run.specs.WorkersRan.{OpensWorkers, RunsOpened, BreaksOffOpened}
 use Rattle.session_law.specs.Agrees.{Agrees}
 use Rattle.session_law.specs.Holds.{HeldAs}
-use Rattle.session_law.proofs.Opening.{opened_held}
+use Rattle.session_law.proofs.answers.Opening.{opened_held}
 use Rattle.workers_source_law.specs.States.{States}
 use Rattle.workers_source_law.specs.Opened.{AreOpened, image_at, all_opened}
 use Rattle.workers_source_law.specs.Law.{HasWordArgs, OpenedStep, OpenedWorkersLaw}

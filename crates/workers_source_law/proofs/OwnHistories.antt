@@ -16,9 +16,9 @@ use Rattle.session_law.specs.State.{standing_as, created}
 use Rattle.session_law.specs.Answers.{Powers}
 use Rattle.session_law.specs.History.{GivesPool, LeadsTo, waiting_of, call_to, counted, called_by}
 use Rattle.session_law.specs.History.{recovered_by, IsPart, HasDone}
-use Rattle.session_law.proofs.Histories.{part_none, part_same, part_append, both, same_done}
-use Rattle.session_law.proofs.Histories.{powers_done}
-use Rattle.session_law.proofs.Running.{told_of}
+use Rattle.session_law.proofs.chains.Histories.{part_none, part_same, part_append, both, same_done}
+use Rattle.session_law.proofs.chains.Histories.{powers_done}
+use Rattle.session_law.proofs.chains.Running.{told_of}
 use Rattle.workers_source_law.specs.Lines.{IsEndedWith, Ends}
 use Rattle.workers_source_law.specs.Law.{Instant, AllHold, WorkerHolds, RanWorkers, first_instant}
 use Rattle.workers_source_law.specs.Law.{last_instant}

@@ -32,7 +32,7 @@ use Rattle.session_law.specs.Agrees.{Agrees}
 use Rattle.session_law.specs.State.{Standing, Ready, Down, Unusable, SourceState}
 use Rattle.session_law.specs.Answers.{RunsAs, CallsWith, CallsTo, CallsNamed, Calls, Shows}
 use Rattle.session_law.specs.Answers.{Lasts, Answers}
-use Rattle.session_law.proofs.Reading.{kind_read, is_marked}
+use Rattle.session_law.proofs.images.Reading.{kind_read, is_marked}
 use Rattle.workers_source_law.specs.Lines.{worker_image, TellsState}
 use Rattle.workers_source_law.specs.Law.{Instant, WorkerHolds, AllHold}
 use Rattle.workers_source_law.specs.Alone.{IsBusy, IsBarred}

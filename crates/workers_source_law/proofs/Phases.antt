@@ -17,8 +17,8 @@ use Rattle.cnvm_session.specs.declared.program.Program.{Program}
 use Rattle.session_law.specs.State.{SourceState}
 use Rattle.session_law.specs.Holds.{IsResting}
 use Rattle.session_law.specs.Law.{HasPhase}
-use Rattle.session_law.proofs.Ones.{rest_newest}
-use Rattle.session_law.proofs.Retired.{next_small}
+use Rattle.session_law.proofs.images.Ones.{rest_newest}
+use Rattle.session_law.proofs.images.Retired.{next_small}
 use Rattle.workers_source_law.proofs.Stills.{still}
 
 seal_is : (k : ℤ) (v : Words) → has_seal k v ≡ true → v SEAL ≡ k

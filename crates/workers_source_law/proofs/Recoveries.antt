@@ -34,9 +34,9 @@ use Rattle.session_law.specs.Agrees.{Agrees}
 use Rattle.session_law.specs.State.{Standing, Ready, Down, Unusable, SourceState}
 use Rattle.session_law.specs.Answers.{Powers}
 use Rattle.session_law.specs.Holds.{IsResting, HoldsAs, HeldAs}
-use Rattle.session_law.proofs.Ones.{left_rest}
-use Rattle.session_law.proofs.Resting.{resting_owes}
-use Rattle.session_law.proofs.Powers.{held_recovers}
+use Rattle.session_law.proofs.images.Ones.{left_rest}
+use Rattle.session_law.proofs.images.Resting.{resting_owes}
+use Rattle.session_law.proofs.answers.Powers.{held_recovers}
 use Rattle.workers_source_law.proofs.Stills.{still, fewer_fenced, fewer_left, marks_fenced}
 use Rattle.workers_source_law.proofs.Stills.{marks_play, fewer_held}
 use Rattle.workers_source_law.proofs.Invariants.{UpAs, Stands}

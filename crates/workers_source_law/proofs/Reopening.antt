@@ -13,7 +13,7 @@ use Rattle.pool_workers.specs.Crew.{compartment}
 use Rattle.cnvm_session.specs.declared.program.Program.{Program}
 use Rattle.cnvm_session.specs.Pool.{sizes_of}
 use Rattle.session_law.specs.Holds.{HeldAs}
-use Rattle.session_law.proofs.Ones.{rest_images}
+use Rattle.session_law.proofs.images.Ones.{rest_images}
 use Rattle.file_law.proofs.Reopening.{left_image}
 use Rattle.workers_source_law.specs.Law.{Instant}
 use Rattle.workers_source_law.specs.Opened.{image_at}

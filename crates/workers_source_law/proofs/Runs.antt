@@ -27,7 +27,7 @@ use Rattle.session_law.specs.Agrees.{Agrees}
 use Rattle.session_law.specs.State.{created}
 use Rattle.session_law.specs.Holds.{IsResting}
 use Rattle.session_law.specs.Law.{super_words}
-use Rattle.session_law.proofs.Creating.{created_rests}
+use Rattle.session_law.proofs.answers.Creating.{created_rests}
 use Rattle.workers_source_law.specs.States.{States, all_created}
 use Rattle.workers_source_law.specs.Law.{HasWordArgs, RanWorkers, BrokeOff, WorkersLaw}
 use Rattle.workers_source_law.specs.Law.{WorkersPartLaw}

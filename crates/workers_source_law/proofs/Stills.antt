@@ -27,7 +27,7 @@ use Rattle.cnvm_session.specs.Pool.{sizes_of}
 use Rattle.session_law.specs.State.{Pending, Standing, Ready, Down, Unusable, SourceState}
 use Rattle.session_law.specs.State.{standing_as}
 use Rattle.session_law.specs.Holds.{HoldsPool, IsResting, OwesNone, OwesBy, HeldAs}
-use Rattle.session_law.proofs.Ones.{rest_images, left_rest, at_left}
+use Rattle.session_law.proofs.images.Ones.{rest_images, left_rest, at_left}
 
 -- a device with this cache
 abbrev pub still : Cache → Device

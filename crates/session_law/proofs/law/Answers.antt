@@ -1,23 +1,23 @@
-use Rattle.session_law.proofs.Commands.{each_command}
-use Rattle.session_law.proofs.Creating.{created_rests}
-use Rattle.session_law.proofs.Chains.{run_chain, chain_kept, chain_grows, chain_whole}
-use Rattle.session_law.proofs.Chains.{created_after, opened_after, open_step}
-use Rattle.session_law.proofs.Opening.{opened_answers}
-use Rattle.session_law.proofs.Phases.{stopped_phase}
-use Rattle.session_law.proofs.PowerPhases.{recovery_phase}
+use Rattle.session_law.proofs.answers.Commands.{each_command}
+use Rattle.session_law.proofs.answers.Creating.{created_rests}
+use Rattle.session_law.proofs.chains.Chains.{run_chain, chain_kept, chain_grows, chain_whole}
+use Rattle.session_law.proofs.chains.Chains.{created_after, opened_after, open_step}
+use Rattle.session_law.proofs.answers.Opening.{opened_answers}
+use Rattle.session_law.proofs.chains.Phases.{stopped_phase}
+use Rattle.session_law.proofs.chains.PowerPhases.{recovery_phase}
 use Rattle.session_law.proofs.Scripts.{script_words}
-use Rattle.session_law.proofs.Steps.{redone_steps}
-use Rattle.session_law.proofs.CallSteps.{call_steps}
-use Rattle.session_law.proofs.Running.{exactly_sealed}
-use Rattle.session_law.proofs.Unchanged.{step_unchanged}
-use Rattle.session_law.proofs.Bounded.{chain_bounded}
-use Rattle.session_law.proofs.Logging.{one_outcome, one_led, full_law}
-use Rattle.session_law.proofs.FullLogs.{full_log}
-use Rattle.session_law.proofs.RolledBack.{call_rolled_back, power_rolled_back}
-use Rattle.session_law.proofs.KeepingChains.{chain_rolled_back}
-use Rattle.session_law.proofs.Exact.{run_exact, run_held}
-use Rattle.session_law.proofs.Ending.{uninterrupted, each_recovery_ends}
-use Rattle.session_law.proofs.LookedAt.{looked_at}
+use Rattle.session_law.proofs.chains.Steps.{redone_steps}
+use Rattle.session_law.proofs.chains.CallSteps.{call_steps}
+use Rattle.session_law.proofs.chains.Running.{exactly_sealed}
+use Rattle.session_law.proofs.chains.Unchanged.{step_unchanged}
+use Rattle.session_law.proofs.chains.Bounded.{chain_bounded}
+use Rattle.session_law.proofs.logs.Logging.{one_outcome, one_led, full_law}
+use Rattle.session_law.proofs.logs.FullLogs.{full_log}
+use Rattle.session_law.proofs.chains.RolledBack.{call_rolled_back, power_rolled_back}
+use Rattle.session_law.proofs.chains.KeepingChains.{chain_rolled_back}
+use Rattle.session_law.proofs.logs.Exact.{run_exact, run_held}
+use Rattle.session_law.proofs.chains.Ending.{uninterrupted, each_recovery_ends}
+use Rattle.session_law.proofs.chains.LookedAt.{looked_at}
 use Rattle.session_law.proofs.law.Goals as goal
 
 pub returns-clause-session : goal.returns-clause-session

@@ -1,6 +1,6 @@
 use Rattle.std.proofs.Common.{rules, ◌≡◌, ◌∙◌, sym, ap, arith, length, List, ℕ}
 use Rattle.std.proofs.lemmas.List.{with_items_is, length-replicate}
-use Rattle.clobber_pass.proofs.Carrying.{popped}
+use Rattle.clobber_pass.proofs.derived.Carrying.{popped}
 use Rattle.clobber_pass.proofs.carry.carry_growth.Goals as goal
 
 pub loop-preserved : goal.loop-preserved

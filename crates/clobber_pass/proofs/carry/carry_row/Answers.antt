@@ -1,6 +1,6 @@
 use Rattle.std.proofs.Common.{◌∙◌, ◌++◌, ap}
 use Rattle.clobber_pass.specs.inside.Carrying.{grown_from}
-use Rattle.clobber_pass.proofs.Carrying.{row_carrying}
+use Rattle.clobber_pass.proofs.derived.Carrying.{row_carrying}
 use Rattle.clobber_pass.proofs.carry.carry_row.Goals as goal
 
 pub carry_growth-requires : goal.carry_growth-requires

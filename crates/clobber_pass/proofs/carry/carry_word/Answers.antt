@@ -1,7 +1,7 @@
 use Rattle.std.proofs.Common.{rules, ◌≡◌, ◌<◌, ◌+◌, subst, Some, slice_get, length, refl}
 use Rattle.std.proofs.lemmas.Option.{slice_get_read}
 use Rattle.clobber_pass.specs.inside.Carrying.{Led}
-use Rattle.clobber_pass.proofs.Carrying.{leads_on, passes_on}
+use Rattle.clobber_pass.proofs.derived.Carrying.{leads_on, passes_on}
 use Rattle.clobber_pass.proofs.carry.carry_word.Goals as goal
 
 pub returns-in_ok-pass-clause-carries : goal.returns-in_ok-pass-clause-carries

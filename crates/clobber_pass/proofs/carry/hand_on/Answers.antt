@@ -1,5 +1,5 @@
 use Rattle.std.proofs.Common.{sym}
-use Rattle.clobber_pass.proofs.Carrying.{arrived_carries}
+use Rattle.clobber_pass.proofs.derived.Carrying.{arrived_carries}
 use Rattle.clobber_pass.proofs.carry.hand_on.Goals as goal
 
 pub returns-clause-carries : goal.returns-clause-carries

@@ -1,7 +1,7 @@
 use Rattle.std.proofs.Common.{rules, ◌<◌, length}
 use Rattle.std.proofs.lemmas.Result.{IfOk-weaker}
 use Rattle.clobber_pass.specs.inside.Sweep.{exits_of}
-use Rattle.clobber_pass.proofs.Carrying.{call_carries}
+use Rattle.clobber_pass.proofs.derived.Carrying.{call_carries}
 use Rattle.clobber_pass.proofs.carry.past_call_in.Goals as goal
 
 pub returns-clause-carries : goal.returns-clause-carries

@@ -2,7 +2,7 @@ use Rattle.std.proofs.Common.{◌≡◌, ◌∙◌, ◌+◌, sym, ap, length, sl
 use Rattle.std.proofs.lemmas.Result.{IfOk-weaker}
 use Rattle.clobber_pass.specs.inside.Row.{after_row}
 use Rattle.clobber_pass.specs.inside.Closed.{one_word_row}
-use Rattle.clobber_pass.proofs.Carrying.{step_carries, step_blank}
+use Rattle.clobber_pass.proofs.derived.Carrying.{step_carries, step_blank}
 use Rattle.clobber_pass.proofs.carry.past_step.Goals as goal
 
 pub returns-clause-carries : goal.returns-clause-carries

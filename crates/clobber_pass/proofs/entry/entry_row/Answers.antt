@@ -1,7 +1,7 @@
 use Rattle.std.proofs.Common.{refl, ◌∙◌, ◌++◌, ◌<◌, sym, ap, ◌+◌, ◌-◌, subst}
 use Rattle.clobber_pass.specs.inside.Told.{row_width}
 use Rattle.clobber_pass.specs.inside.Closed.{entry_from, entry_row}
-use Rattle.clobber_pass.proofs.Views.{pushed, entry_next}
+use Rattle.clobber_pass.proofs.bits.Views.{pushed, entry_next}
 use Rattle.clobber_pass.proofs.entry.entry_row.Goals as goal
 
 pub loop-slot-preserved : goal.loop-slot-preserved

@@ -1,7 +1,7 @@
 use Rattle.std.proofs.Common.{refl, ◌∙◌, ◌++◌, ◌<◌, sym, ap, ◌+◌, ◌-◌, subst}
 use Rattle.clobber_pass.specs.inside.Told.{row_width}
 use Rattle.clobber_pass.specs.inside.Flow.{enter_from, enter_row}
-use Rattle.clobber_pass.proofs.Views.{pushed, enter_next}
+use Rattle.clobber_pass.proofs.bits.Views.{pushed, enter_next}
 use Rattle.clobber_pass.proofs.flow.enter_row.Goals as goal
 
 pub loop-slot-preserved : goal.loop-slot-preserved

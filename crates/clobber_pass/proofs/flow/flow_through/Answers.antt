@@ -5,7 +5,7 @@ use Rattle.ir.specs.declared.function.IrFunction.{IrFunction}
 use Rattle.clobber_pass.specs.Sweep.{row_in}
 use Rattle.clobber_pass.specs.inside.Closed.{Made, Closed}
 use Rattle.clobber_pass.specs.inside.Flow.{at_entry, entries_after_calls, Wakes}
-use Rattle.clobber_pass.proofs.Flowing.{through}
+use Rattle.clobber_pass.proofs.derived.Flowing.{through}
 use Rattle.clobber_pass.proofs.flow.flow_through.Goals as goal
 
 pub returns-clause-flow : goal.returns-clause-flow

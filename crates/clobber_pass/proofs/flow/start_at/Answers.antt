@@ -4,7 +4,7 @@ use Rattle.std.proofs.lemmas.Option.{slice_get_read}
 use Rattle.ir.specs.declared.function.IrFunction.{IrFunction}
 use Rattle.clobber_pass.specs.inside.Sweep.{join_in}
 use Rattle.clobber_pass.specs.inside.Flow.{start_row}
-use Rattle.clobber_pass.proofs.Starting.{start_entries, start_here, start_keeps, start_none}
+use Rattle.clobber_pass.proofs.derived.Starting.{start_entries, start_here, start_keeps, start_none}
 use Rattle.clobber_pass.proofs.flow.start_at.Goals as goal
 
 pub returns-in_ok-join-clause-entries : goal.returns-in_ok-join-clause-entries

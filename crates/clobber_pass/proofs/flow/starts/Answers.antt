@@ -1,7 +1,7 @@
 use Rattle.std.proofs.Common.{◌≡◌, ◌∙◌, sym, ap, subst, length, List, [], replicate, arith}
 use Rattle.ir.specs.declared.function.IrFunction.{IrFunction}
 use Rattle.clobber_pass.specs.inside.Flow.{Entries}
-use Rattle.clobber_pass.proofs.Starting.{no_entries, all_start}
+use Rattle.clobber_pass.proofs.derived.Starting.{no_entries, all_start}
 use Rattle.clobber_pass.proofs.flow.starts.Goals as goal
 
 pub loop-function-init : goal.loop-function-init

@@ -1,6 +1,6 @@
 use Rattle.std.proofs.Common.{rules, ◌≡◌, ◌≤◌, length, arith}
-use Rattle.clobber_pass.proofs.Tabled.{keeps_both}
-use Rattle.clobber_pass.proofs.AllTopics.{more_fields, all_fields}
+use Rattle.clobber_pass.proofs.marked.Tabled.{keeps_both}
+use Rattle.clobber_pass.proofs.marked.AllTopics.{more_fields, all_fields}
 use Rattle.clobber_pass.proofs.mark_topics.mark_fields.Goals as goal
 
 pub loop-left-preserved : goal.loop-left-preserved

@@ -1,7 +1,7 @@
 use Rattle.std.proofs.Common.{arith}
 use Rattle.std.proofs.lemmas.Option.{slice_get-get_or}
-use Rattle.clobber_pass.proofs.Tabled.{keeps_both}
-use Rattle.clobber_pass.proofs.AllTopics.{more_roots, all_roots}
+use Rattle.clobber_pass.proofs.marked.Tabled.{keeps_both}
+use Rattle.clobber_pass.proofs.marked.AllTopics.{more_roots, all_roots}
 use Rattle.clobber_pass.proofs.mark_topics.mark_roots.Goals as goal
 
 pub loop-index-preserved : goal.loop-index-preserved

@@ -1,5 +1,5 @@
 use Rattle.clobber_pass.specs.inside.Marking.{Marks, KeepsRows}
-use Rattle.clobber_pass.proofs.AllTopics.{RootsBelow}
+use Rattle.clobber_pass.proofs.marked.AllTopics.{RootsBelow}
 use Rattle.clobber_pass.proofs.mark_topics.mark_roots.Given as goal
 
 abbrev pub invariant-loop-index : goal.invariant-loop-index

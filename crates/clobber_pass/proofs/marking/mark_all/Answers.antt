@@ -1,8 +1,8 @@
 use Rattle.std.proofs.Common.{subst}
 use Rattle.clobber_pass.specs.declared.topic.Topic.TheVariants.{Frees}
 use Rattle.clobber_pass.specs.inside.Classes.{RootsMarked, FieldsMarked}
-use Rattle.clobber_pass.proofs.Tabled.{headers_keep, marked_keeps}
-use Rattle.clobber_pass.proofs.AllTopics.{roots_keep}
+use Rattle.clobber_pass.proofs.marked.Tabled.{headers_keep, marked_keeps}
+use Rattle.clobber_pass.proofs.marked.AllTopics.{roots_keep}
 use Rattle.clobber_pass.proofs.marking.mark_all.Goals as goal
 
 pub returns-clause-headers : goal.returns-clause-headers

@@ -2,8 +2,8 @@ use Rattle.std.proofs.Common.{◌≡◌, ◌∙◌, ap, sym, subst, List}
 use Rattle.ir.specs.declared.function.IrFunction.{IrFunction}
 use Rattle.clobber_pass.specs.inside.Marking.{Marks, Headers, headers_of}
 use Rattle.clobber_pass.specs.inside.Classes.{HasAll}
-use Rattle.clobber_pass.proofs.Tabled.{headers_marks, headers_marked}
-use Rattle.clobber_pass.proofs.Exact.{marks_exact}
+use Rattle.clobber_pass.proofs.marked.Tabled.{headers_marks, headers_marked}
+use Rattle.clobber_pass.proofs.marked.Exact.{marks_exact}
 use Rattle.clobber_pass.proofs.marking.marks.Goals as goal
 
 pub mark_all-requires-clause-marks : goal.mark_all-requires-clause-marks

@@ -3,8 +3,9 @@ use Rattle.std.proofs.lemmas.Option.{slice_get_read}
 use Rattle.std.proofs.lemmas.Result.{IfOk-weaker}
 use Rattle.clobber_pass.specs.Sweep.{row_in}
 use Rattle.clobber_pass.specs.inside.Closed.{entry_row, Made, Closed}
-use Rattle.clobber_pass.proofs.Columns.{column_shaped, column_sound, column_ended, column_told}
-use Rattle.clobber_pass.proofs.Columns.{made_column}
+use Rattle.clobber_pass.proofs.derived.Columns.{column_shaped, column_sound, column_ended}
+use Rattle.clobber_pass.proofs.derived.Columns.{column_told}
+use Rattle.clobber_pass.proofs.derived.Columns.{made_column}
 use Rattle.clobber_pass.specs.inside.Calling.{Apart}
 use Rattle.clobber_pass.proofs.Recalling.{apart_none, apart_joined, alone_ended}
 use Rattle.clobber_pass.proofs.passes.column.Goals as goal

@@ -3,7 +3,7 @@ use Rattle.clobber_pass.specs.inside.Closed.{Ended}
 use Rattle.clobber_pass.specs.inside.Calling.{EndedAlone}
 use Rattle.clobber_pass.specs.inside.Room.{all_room}
 use Rattle.clobber_pass.proofs.Recalling.{apart_both, alone_keeps}
-use Rattle.clobber_pass.proofs.Rounds.{below_next, next_quiet}
+use Rattle.clobber_pass.proofs.bits.Rounds.{below_next, next_quiet}
 use Rattle.clobber_pass.proofs.passes.columns.Goals as goal
 use Rattle.clobber_pass.proofs.passes.columns.Goals.{then-branch, else-branch}
 

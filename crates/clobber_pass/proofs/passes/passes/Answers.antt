@@ -3,7 +3,7 @@ use Rattle.ir.specs.declared.function.IrFunction.{IrFunction}
 use Rattle.clobber_pass.specs.inside.Closed.{ShapedExits, no_exits}
 use Rattle.clobber_pass.specs.inside.Sound.{SoundExits}
 use Rattle.clobber_pass.specs.inside.Calling.{all_called, edges_from}
-use Rattle.clobber_pass.proofs.Columns.{no_exits_sound, no_exits_shaped}
+use Rattle.clobber_pass.proofs.derived.Columns.{no_exits_sound, no_exits_shaped}
 use Rattle.clobber_pass.proofs.Recalling.{passing_first}
 use Rattle.clobber_pass.proofs.passes.passes.Goals as goal
 

@@ -1,6 +1,6 @@
 use Rattle.std.proofs.Common.{refl, ◌∙◌, ◌++◌, sym, ap, drop, ◌+◌}
 use Rattle.clobber_pass.specs.inside.Sweep.{exits_of, call_from}
-use Rattle.clobber_pass.proofs.Views.{pushed, call_next}
+use Rattle.clobber_pass.proofs.bits.Views.{pushed, call_next}
 use Rattle.clobber_pass.proofs.sweep.call.Goals as goal
 
 pub loop-slot-preserved : goal.loop-slot-preserved

@@ -2,7 +2,7 @@ use Rattle.std.proofs.Common.{rules, ◌≡◌, ◌∙◌, sym, ap, List, ℕ, [
 use Rattle.std.proofs.lemmas.Result.{IfOk-weaker}
 use Rattle.clobber_pass.specs.inside.Sweep.{exits_of}
 use Rattle.clobber_pass.specs.inside.Marking.{marks_from}
-use Rattle.clobber_pass.proofs.Tabled.{no_table}
+use Rattle.clobber_pass.proofs.marked.Tabled.{no_table}
 use Rattle.clobber_pass.proofs.table.function_row.Goals as goal
 
 pub returns-in-None : goal.returns-in-None

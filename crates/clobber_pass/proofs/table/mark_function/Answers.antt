@@ -1,6 +1,6 @@
 use Rattle.std.proofs.Common.{rules, ◌≡◌, length}
 use Rattle.clobber_pass.specs.Sweep.{row_in}
-use Rattle.clobber_pass.proofs.Tabled.{no_row, unreached}
+use Rattle.clobber_pass.proofs.marked.Tabled.{no_row, unreached}
 use Rattle.clobber_pass.proofs.table.mark_function.Goals as goal
 
 pub returns-then-is_empty-clause-marked : goal.returns-then-is_empty-clause-marked

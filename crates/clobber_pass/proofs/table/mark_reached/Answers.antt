@@ -6,7 +6,8 @@ use Rattle.clobber_pass.specs.Sweep.{row_in}
 use Rattle.clobber_pass.specs.inside.Sweep.{exits_of, join_in}
 use Rattle.clobber_pass.specs.inside.Flow.{at_entry}
 use Rattle.clobber_pass.specs.inside.Marking.{marks_from}
-use Rattle.clobber_pass.proofs.Tabled.{some_row, function_marks, function_keeps, function_marked}
+use Rattle.clobber_pass.proofs.marked.Tabled.{some_row, function_marks, function_keeps}
+use Rattle.clobber_pass.proofs.marked.Tabled.{function_marked}
 use Rattle.clobber_pass.proofs.table.mark_reached.Goals as goal
 
 pub returns-clause-marks : goal.returns-clause-marks

@@ -1,6 +1,6 @@
 use Rattle.clobber_pass.specs.inside.Marking.{Marked}
-use Rattle.clobber_pass.proofs.Rounds.{below_next}
-use Rattle.clobber_pass.proofs.Tabled.{keeps_both, marked_keeps}
+use Rattle.clobber_pass.proofs.bits.Rounds.{below_next}
+use Rattle.clobber_pass.proofs.marked.Tabled.{keeps_both, marked_keeps}
 use Rattle.clobber_pass.proofs.table.mark_topic.Goals as goal
 
 pub loop-function-preserved : goal.loop-function-preserved

@@ -1,6 +1,6 @@
 use Rattle.std.proofs.Common.{rules, ◌<◌, ◌∙◌, ◌^◌, sym, ap, subst, length, slice_set, arith, refl}
 use Rattle.clobber_pass.specs.inside.Room.{room}
-use Rattle.clobber_pass.proofs.Rooms.{written, filled_room}
+use Rattle.clobber_pass.proofs.bits.Rooms.{written, filled_room}
 use Rattle.clobber_pass.proofs.rows.Rows.fill.Goals as goal
 
 pub returns-clause-row : goal.returns-clause-row

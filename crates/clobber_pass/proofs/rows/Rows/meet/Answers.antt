@@ -2,10 +2,11 @@ use Rattle.std.proofs.Common.{rules, ◌≡◌, ◌<◌, ◌≤◌, ◌∙◌, s
 use Rattle.std.proofs.Common.{get_or}
 use Rattle.std.specs.Vec.{with_items}
 use Rattle.std.proofs.lemmas.List.{with_items_is}
-use Rattle.clobber_pass.proofs.Joins.{length_or}
+use Rattle.clobber_pass.proofs.bits.Joins.{length_or}
 use Rattle.clobber_pass.specs.inside.Sweep.{or_from}
 use Rattle.clobber_pass.specs.inside.Room.{room, words_room}
-use Rattle.clobber_pass.proofs.Rooms.{written, joined_row, joined_same, joined_less, joined_most}
+use Rattle.clobber_pass.proofs.bits.Rooms.{written, joined_row, joined_same, joined_less}
+use Rattle.clobber_pass.proofs.bits.Rooms.{joined_most}
 use Rattle.clobber_pass.proofs.rows.Rows.meet.Goals as goal
 
 pub returns-clause-row : goal.returns-clause-row

@@ -1,4 +1,4 @@
-use Rattle.clobber_pass.proofs.Views.{one_more}
+use Rattle.clobber_pass.proofs.bits.Views.{one_more}
 use Rattle.clobber_pass.proofs.rows.Rows.new.Goals as goal
 
 pub loop-preserved : goal.loop-preserved

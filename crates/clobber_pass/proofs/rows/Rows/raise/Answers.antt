@@ -4,7 +4,7 @@ use Rattle.std.specs.Vec.{with_items}
 use Rattle.std.proofs.lemmas.List.{with_items_is}
 use Rattle.clobber_pass.specs.Row.{word}
 use Rattle.clobber_pass.specs.inside.Room.{room, words_room}
-use Rattle.clobber_pass.proofs.Rooms.{written, raised_row, raised_length, raised_most}
+use Rattle.clobber_pass.proofs.bits.Rooms.{written, raised_row, raised_length, raised_most}
 use Rattle.clobber_pass.proofs.rows.Rows.raise.Goals as goal
 
 pub returns-clause-row : goal.returns-clause-row

@@ -1,0 +1,4 @@
+pub mod Told
+pub mod Reached
+pub mod Stays
+pub mod FlowLaw

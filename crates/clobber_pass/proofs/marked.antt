@@ -1,0 +1,4 @@
+pub mod PlaceMarks
+pub mod Tabled
+pub mod AllTopics
+pub mod Exact

@@ -1,0 +1,5 @@
+pub mod Steps
+pub mod After
+pub mod About
+pub mod Calls
+pub mod Fits

@@ -1,0 +1,14 @@
+pub mod Steps
+pub mod CallSteps
+pub mod Phases
+pub mod PowerPhases
+pub mod RolledBack
+pub mod Histories
+pub mod Keeping
+pub mod KeepingChains
+pub mod Running
+pub mod Chains
+pub mod Unchanged
+pub mod Bounded
+pub mod Ending
+pub mod LookedAt

@@ -1,0 +1,4 @@
+pub mod Coming
+pub mod Logging
+pub mod FullLogs
+pub mod Exact
