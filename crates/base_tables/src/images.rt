@@ -1,7 +1,8 @@
 //! Images by example. What is wanted was written down from the rules, digests by another program.
 
+use nvm_base::Words;
 use pool_layout::{
-    ImageFault, Layout, Place, Sizes, Wanted, digest, image_bytes, pool_lines, read_image,
+    ImageFault, Layout, Place, RawImage, Sizes, Wanted, digest, image_bytes, pool_lines, read_image,
 };
 use std::alloc::{AllocError, Global};
 use std::test::Fail;
@@ -118,8 +119,17 @@ fn image(
     Ok(bytes)
 }
 
+/// What reading makes of an image's bytes, which come in two pieces.
+fn read(alloc: Global, bytes: &[u8], wanted: &Wanted) -> Result<Words, ImageFault> {
+    let mut image = RawImage::new(alloc);
+    let (first, rest) = bytes.split_at(bytes.len() / 3);
+    image.extend(first)?;
+    image.extend(rest)?;
+    read_image(alloc, image, wanted)
+}
+
 fn fault_of(alloc: Global, bytes: &[u8], wanted: &Wanted) -> Option<ImageFault> {
-    read_image(alloc, bytes, wanted).err()
+    read(alloc, bytes, wanted).err()
 }
 
 fn wanted_of(sizes: Sizes, txs: u64, structs: u64) -> Wanted {
@@ -299,7 +309,7 @@ fn small_images_are_read_by_rule(rt: HostRuntime) -> Result<(), Fail> {
     );
 
     let first = image(alloc, 512, &wanted, OLD_POOL, [NONE, NONE])?;
-    let moved = read_image(alloc, &first, &wanted);
+    let moved = read(alloc, &first, &wanted);
     let second = image(alloc, 640, &wanted, MOVED_POOL, [NONE, NONE])?;
     match moved {
         Ok(words) => assert_eq!(rt;

@@ -19,7 +19,7 @@ use Rattle.cnvm_cli.specs.declared.refused.Refused.{Refused}
 use Rattle.cnvm_cli.specs.declared.refused.Refused.TheVariants as refused
 use Rattle.cnvm_cli.specs.inside.CrewEnds.{CrewIs, CrewImageReadAs}
 use Rattle.cnvm_cli.specs.inside.Opened.{ImageIs}
-use Rattle.cnvm_cli.proofs.Sources.{of_part}
+use Rattle.cnvm_cli.proofs.texts.Sources.{of_part}
 
 -- the images have so many bytes at most
 pub images_bound : (size count : ℕ) → size ≤ 2 ^ 33 → count ≤ 8 → size * count ≤ 2 ^ 36

@@ -10,6 +10,7 @@ use Rattle.std.specs.Cmp.Lexicographic.{pointwise, pointwise_decides}
 use Rattle.std.specs.Io.KnownBytes.{Consumes, IsAtEnd}
 use Rattle.pool_layout.specs.Fault.{digest_in, IsFirstFault}
 use Rattle.pool_layout.specs.Sizes.{pool_lines}
+use Rattle.pool_layout.specs.Taken.{ReadOnto}
 use Rattle.pool_layout.specs.declared.wanted.ImageFault.TheVariants.{Digest}
 use Rattle.cnvm_session.specs.Former.{first_other}
 use Rattle.cnvm_session.specs.Pool.{sizes_of, wanted_of}
@@ -30,9 +31,9 @@ use Rattle.cnvm_cli.specs.inside.FormerEnds.{IsPoolRead, PoolReadAs, FormerReadA
 use Rattle.cnvm_cli.specs.inside.FormerEnds.{IsTakenAsOwn, IsFormerImage, IsFormerPool}
 use Rattle.cnvm_cli.specs.inside.FormerEnds.{RefusesStart, StartReadAs}
 use Rattle.cnvm_cli.specs.inside.Opened.{ImageIs}
-use Rattle.cnvm_cli.proofs.Heads.{of_rest, of_digest, digest_append, length_mended}
-use Rattle.cnvm_cli.proofs.Heads.{unmoved_consumes}
-use Rattle.cnvm_cli.proofs.Sources.{known_bytes, of_map, of_part}
+use Rattle.cnvm_cli.proofs.texts.Heads.{of_rest, of_digest, digest_append, length_mended}
+use Rattle.cnvm_cli.proofs.texts.Heads.{unmoved_consumes}
+use Rattle.cnvm_cli.proofs.texts.Sources.{known_bytes, of_map, of_part}
 
 -- of a source that failed, and of want of memory, nothing is said
 pub unsaid_image : (program : Program) (image : Option (List ℕ)) (why : Refused) → IsUnsaid why
@@ -50,7 +51,7 @@ unsaid_program former why (inr is) =
     subst (λ (y : Refused). ProgramRefuses former y) (sym is) tt
 
 -- what is made of the first bytes and of the rest that was read
-pub rest_read : (program : Program) (head : List ℕ) (left : Option (List ℕ))
+rest_read : (program : Program) (head : List ℕ) (left : Option (List ℕ))
     (r : Result (List ℤ) Refused) (rest bytes : List ℕ) → bytes ≡ head ++ rest
     → IfSome left (λ all. rest ≡ take (64 * pool_lines (sizes_of program) + 1 - 96) all)
     → length rest ≤ 64 * pool_lines (sizes_of program) + 1 - 96 → ImageIs program r bytes
@@ -63,6 +64,17 @@ rest_read program head left (Err why) rest bytes whole first within is =
     inr (of_part (64 * pool_lines (sizes_of program) + 1 - 96) left
     (λ part. ImageIs program (Err why) (head ++ part)) rest first within
     (subst (ImageIs program (Err why)) whole is))
+
+-- the rest was taken from the source, from the first bytes on
+pub rest_taken : (program : Program) (head : List ℕ) (left : Option (List ℕ))
+    (r : Result (List ℤ) Refused) (none begun bytes : List ℕ) → none ≡ [] → begun ≡ none ++ head
+    → ReadOnto left (64 * pool_lines (sizes_of program) + 1 - 96) begun bytes
+    → ImageIs program r bytes → RestReadAs program head left r
+rest_taken program head left r none begun bytes empty start read is =
+    rest_read program head left r read.bytes bytes
+    (read.grown ∙ ap (λ (l : List ℕ). l ++ read.bytes)
+    (start ∙ ap (λ (l : List ℕ). l ++ head) empty))
+    read.first read.within is
 
 -- the program's image, whose first bytes are these
 own_image : (program : Program) (image left : Option (List ℕ)) (head : List ℕ)

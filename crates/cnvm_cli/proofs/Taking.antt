@@ -26,7 +26,7 @@ use Rattle.cnvm_cli.specs.Run.{RefusedAs}
 use Rattle.cnvm_cli.specs.Verdict.{OfBytes}
 use Rattle.cnvm_cli.specs.inside.FormerEnds.{IsTakenAsOwn, IsFormerImage, IsFormerPool}
 use Rattle.cnvm_cli.specs.inside.FormerEnds.{RefusesStart, TakesWords, TakesPool}
-use Rattle.cnvm_cli.proofs.Sources.{of_map}
+use Rattle.cnvm_cli.proofs.texts.Sources.{of_map}
 
 pub newest_by : (a : Option FileLines) (l n : ℕ) (h w : List ℤ) → l ≡ n → h ≡ w
     → HoldsNewest a l h → HoldsNewest a n w

@@ -8,7 +8,7 @@ use Rattle.cnvm_compile.specs.Compilation.{IsCompiled}
 use Rattle.file_law.proofs.Shapes.{moved_sizes}
 use Rattle.cnvm_cli.specs.declared.former.FormerPool.{FormerPool}
 use Rattle.cnvm_cli.specs.inside.FormerEnds.{ComesFromText, IsFormerPool, IsUsable}
-use Rattle.cnvm_cli.proofs.Sources.{known_bytes}
+use Rattle.cnvm_cli.proofs.texts.Sources.{known_bytes}
 
 -- two programs of the same sizes that were asked for
 pub sizes_same : (asked : Asked) (former new : Compiled) → ComesFromText asked former

@@ -5,12 +5,13 @@ ghost use Rattle.nvm_base.specs.Rose.{Rose};
 ghost use Rattle.pool_layout.specs.Sizes as sizes_of;
 ghost use Rattle.cnvm_cli.specs.CrewOpened.{bytes_within, image_size, last_version};
 ghost use Rattle.cnvm_cli.specs.inside.CrewEnds.{CrewIs, CrewImageReadAs};
+ghost use Rattle.cnvm_cli.specs.inside.Opened.{ImageIs};
 
 use crate::reading::words_of;
 use crate::refused::Refused;
 use cnvm_session::Program;
 use nvm_base::{Source, UpToFault, Words, read_up_to};
-use pool_layout::pool_lines;
+use pool_layout::{RawImage, pool_lines};
 use std::alloc::Global;
 
 /// The length of an image in bytes.
@@ -67,7 +68,7 @@ fn crew_words(alloc: Global, bytes: &[u8], program: &Program, count: u32) -> Res
     let mut words = Words::new(alloc);
     for worker in 0..count {
         let image = bytes_within(bytes, program, count, worker);
-        let own = match words_of(alloc, image, program) {
+        let own = match words_of_bytes(alloc, image, program) {
             Ok(own) => own,
             Err(why) => return Err(why),
         };
@@ -76,6 +77,19 @@ fn crew_words(alloc: Global, bytes: &[u8], program: &Program, count: u32) -> Res
         }
     }
     Ok(words)
+}
+
+/// The words of one image, whose bytes are these.
+fn words_of_bytes(alloc: Global, bytes: &[u8], program: &Program) -> Result<Words, Refused>
+    ensures are { ImageIs program.now result bytes.now }
+    ensures read { IsErrOf result Refused.ReadFault → ⊥ }
+    ensures usage { IsErrOf result Refused.Usage → ⊥ }
+{
+    let mut image = RawImage::new(alloc);
+    match image.extend(bytes) {
+        Ok(()) => words_of(alloc, image, program),
+        Err(_) => Err(Refused::NoMemory),
+    }
 }
 
 /// The bytes of a worker's image; those of the last one are all that are left.

@@ -23,7 +23,9 @@ use cnvm_session::{Program, Session, first_other};
 use file_pmem::{FileAnswer, FilePmem, LineFile, Unread, words_in};
 use nvm_base::{Bytes, Sink, Source, Text, UpToFault, Words, read_up_to};
 use pmem::Lines;
-use pool_layout::{DONE, ImageFault, MARK, SEAL, digest_in, image_bytes, pool_lines};
+use pool_layout::{
+    DONE, ImageFault, MARK, RawImage, SEAL, digest_in, image_bytes, pool_lines, read_onto,
+};
 use session_run::{Status, move_held, tell};
 use std::alloc::{AllocError, Global};
 
@@ -208,7 +210,7 @@ fn former_pool(
 fn read_rest<I: Source>(
     alloc: Global,
     image: &mut I,
-    mut head: Bytes,
+    head: Bytes,
     program: &Program,
 ) -> Result<Words, Refused>
     requires { length head ≤ 96 }
@@ -218,14 +220,14 @@ fn read_rest<I: Source>(
     ensures usage { IsErrOf result Refused.Usage → ⊥ }
 {
     let most = 64 * pool_lines(program.image.sizes()) as usize + 1 - HEAD;
-    let rest = match read_up_to(alloc, image, most) {
-        Ok(rest) => rest,
-        Err(UpToFault::ReadFault) => return Err(Refused::ReadFault),
-        Err(UpToFault::NoMemory) => return Err(Refused::NoMemory),
-    };
-    match head.extend(rest.as_slice()) {
-        Ok(()) => words_of(alloc, head.as_slice(), program),
-        Err(_) => Err(Refused::NoMemory),
+    let mut bytes = RawImage::new(alloc);
+    if let Err(_) = bytes.extend(head.as_slice()) {
+        return Err(Refused::NoMemory);
+    }
+    match read_onto(alloc, image, &mut bytes, most) {
+        Ok(()) => words_of(alloc, bytes, program),
+        Err(UpToFault::ReadFault) => Err(Refused::ReadFault),
+        Err(UpToFault::NoMemory) => Err(Refused::NoMemory),
     }
 }
 

@@ -26,7 +26,7 @@ use cnvm_compile::Asked;
 use cnvm_script::Script;
 use cnvm_session::{Program, StartFault, Traps};
 use file_pmem::{FilePmem, Held, LineFile, Made, Pools, Unread, words_in};
-use nvm_base::{Sink, Source, Steps};
+use nvm_base::{Sink, Source, Steps, Words};
 use pmem::Lines;
 use pool_layout::{ImageFault, pool_lines};
 use session_run::{Status, answer_script, create_held, open_held, run_held, run_new};
@@ -188,26 +188,17 @@ fn run_image<I: Source, K: Sink, N: Lines + Drop, F: LineFile + Drop, L: Ledger>
         Ok(words) => words,
         Err(why) => return refuse(alloc, why, out),
     };
-    run_words(
-        alloc,
-        program,
-        script,
-        file,
-        words.as_slice(),
-        traps,
-        out,
-        dev,
-        steps,
-    )
+    run_words(alloc, program, script, file, words, traps, out, dev, steps)
 }
 
-/// Runs the commands on the pool of a file that is held, if it holds these words.
+/// Runs the commands on the pool of a file that is held, if it holds these words, which are let go
+/// once they were compared.
 fn run_words<K: Sink, N: Lines + Drop, F: LineFile + Drop, L: Ledger>(
     alloc: Global,
     program: &Program,
     script: &Script,
     mut file: F,
-    words: &[i64],
+    words: Words,
     traps: &mut Traps,
     out: &mut K,
     dev: &mut FilePmem<N, F>,
@@ -215,7 +206,7 @@ fn run_words<K: Sink, N: Lines + Drop, F: LineFile + Drop, L: Ledger>(
 ) -> Status
     ensures usage { result ≢ Status.Usage }
     ensures write { result ≡ Status.WriteFault → Rose (K.faults out.old) (K.faults out.new) }
-    ensures ends { (found : Option Found) → WordsEnd program.now script.now words.now
+    ensures ends { (found : Option Found) → WordsEnd program.now script.now words
         (F.content file) result (pool_side found (K.written out.old) (held_by N.memory F.content
         dev.old) steps.old) (pool_side found (K.written out.new) (held_by N.memory F.content
         dev.new) steps.new) }
@@ -225,11 +216,12 @@ fn run_words<K: Sink, N: Lines + Drop, F: LineFile + Drop, L: Ledger>(
         Err(Unread::Failed) => return Status::ReadFault,
         Err(Unread::NoMemory) => return Status::NoMemory,
     };
-    let held = held.as_slice();
-    if are_same(held, words) {
+    let same = are_same(held.as_slice(), words.as_slice());
+    drop(words);
+    if same {
         return run_held(alloc, program, script, held, file, traps, out, dev, steps);
     }
-    refuse(alloc, other_words(held), out)
+    refuse(alloc, other_words(held.as_slice()), out)
 }
 
 /// Checks the image of a file that is held, and runs the commands on it; it may be of the
@@ -261,7 +253,7 @@ fn run_either<S: Source, I: Source, K: Sink, N: Lines + Drop, F: LineFile + Drop
             program,
             &job.script,
             file,
-            words.as_slice(),
+            words,
             traps,
             out,
             dev,

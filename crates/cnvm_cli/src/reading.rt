@@ -13,8 +13,8 @@ use c_lexer::MOST_BYTES;
 use cnvm_compile::{Asked, Compiled, Told, compile, told_of};
 use cnvm_script::{SCRIPT_BYTES, Script, ScriptFault, read_script};
 use cnvm_session::Program;
-use nvm_base::{Bytes, ReadAllFault, Source, UpToFault, Words, read_all, read_up_to};
-use pool_layout::{ImageFault, pool_lines, read_image};
+use nvm_base::{Bytes, ReadAllFault, Source, UpToFault, Words, read_all};
+use pool_layout::{RawImage, pool_lines, read_image, read_onto};
 use std::alloc::Global;
 
 /// All bytes of the source, if they are within the limit.
@@ -121,17 +121,17 @@ pub(crate) fn read_words<I: Source>(
     ensures usage { IsErrOf result Refused.Usage → ⊥ }
 {
     let most = 64 * pool_lines(program.image.sizes()) as usize + 1;
-    let bytes = match read_up_to(alloc, source, most) {
-        Ok(bytes) => bytes,
-        Err(UpToFault::ReadFault) => return Err(Refused::ReadFault),
-        Err(UpToFault::NoMemory) => return Err(Refused::NoMemory),
-    };
-    words_of(alloc, bytes.as_slice(), program)
+    let mut image = RawImage::new(alloc);
+    match read_onto(alloc, source, &mut image, most) {
+        Ok(()) => words_of(alloc, image, program),
+        Err(UpToFault::ReadFault) => Err(Refused::ReadFault),
+        Err(UpToFault::NoMemory) => Err(Refused::NoMemory),
+    }
 }
 
 /// The words of an image's bytes.
-pub(crate) fn words_of(alloc: Global, bytes: &[u8], program: &Program) -> Result<Words, Refused>
-    ensures are { ImageIs program.now result bytes.now }
+pub(crate) fn words_of(alloc: Global, bytes: RawImage, program: &Program) -> Result<Words, Refused>
+    ensures are { ImageIs program.now result bytes }
     ensures read { IsErrOf result Refused.ReadFault → ⊥ }
     ensures usage { IsErrOf result Refused.Usage → ⊥ }
 {

@@ -9,5 +9,6 @@ pub mod Rest
 pub mod Refusing
 pub mod Quiets
 pub mod Writing
+pub mod Filling
 pub mod Bounding
 mod Same

@@ -1,7 +1,7 @@
 -- Which struct of a program's former text differs in its new one. Where none does, a pool of the
 -- former program is one of the new program: the roots have the same fields, and the new program's
 -- numbered structs begin with the former one's, each with the same name and fields. What comes
--- behind them fits into the former one's slots, so that both programs have slots of one width.
+-- after them fits into the former one's slots, so that both programs have slots of one width.
 use Rattle.std.specs.Prelude.{ℕ, List, [], ◌∷◌, Bool, true, false, Option, Some, None}
 use Rattle.std.specs.Prelude.{if◌then◌else◌, ◌&&◌, ◌-◌, nat_le, slice_get}
 use Rattle.std.specs.Option.{option_map_or}
@@ -57,7 +57,7 @@ first_wider room (s ∷ ss) =
     if nat_le (words_of_struct s) room then first_wider room ss else Some s.name.text
 
 -- the first of the former structs that isn't the same at its place among the new ones, or the first
--- struct behind them that is too large
+-- struct after them that is too large
 abbrev pub numbered_other : (room : ℕ) → (former new : List StructTree) → Option (List ℕ)
 numbered_other room [] ts = first_wider room ts
 numbered_other room (s ∷ ss) ts =

@@ -69,7 +69,7 @@ fn root_name<'a>(former: &Program<'a>, new: &Program<'a>) -> &'a str
 }
 
 /// The name of the first numbered struct of the former ones that isn't the same at its place among
-/// the new ones, or of the first one behind these that is too large.
+/// the new ones, or of the first one after these that is too large.
 fn numbered_other<'a>(room: u64, former: &Program<'a>, new: &Program<'a>) -> Option<&'a str>
     ensures { option_map (λ s. s.now) result
         ≡ former_is.numbered_other room (shapes.numbered_in (tables_in former.now))

@@ -125,8 +125,29 @@ fn play_opening<P: PmemWork>(dev: &mut P, words: &[i64], lines: u64) -> Result<(
     fence(dev)
 }
 
-/// Writes the words of an image on so many blank lines. An image with another number of words is
-/// answered as `NoMemory` and changes nothing; reading an image never gives one.
+/// Writes the words of an image on so many blank lines, by its events.
+fn write_lines<P: Pmem>(lines: u64, words: &[i64], dev: &mut P) -> Result<(), StartFault>
+    requires words { length words.now ≡ 8 * lines }
+    ensures done { OnOk result (PlaysAll (blanked lines (P.device dev.old))
+        (opening_events lines words.now) (P.device dev.new)) }
+    ensures lines { OnOk result ((P.device dev.new).lines ≡ lines) }
+    ensures refused { IfErr result (λ why. IsUnmade why lines (opening_events lines words.now)
+        (P.device dev.old) (P.device dev.new)) }
+    ensures failed { IsErrOf result StartFault.Failed
+        → FaultsRose (P.device dev.old).faults (P.device dev.new).faults }
+{
+    if let Err(_) = dev.blank(lines) {
+        return Err(StartFault::NoMemory);
+    }
+    match play_opening(dev, words, lines) {
+        Ok(()) => Ok(()),
+        Err(refusal) => Err(StartFault::of(refusal)),
+    }
+}
+
+/// Writes the words of an image on so many blank lines; a device that can takes them at once. An
+/// image with another number of words is answered as `NoMemory` and changes nothing; reading an
+/// image never gives one.
 pub fn open_lines<P: Pmem>(lines: u64, words: &[i64], dev: &mut P) -> Result<(), StartFault>
     requires small { lines ≤ 2 ^ 30 }
     ensures done { OnOk result (PlaysAll (blanked lines (P.device dev.old))
@@ -141,13 +162,13 @@ pub fn open_lines<P: Pmem>(lines: u64, words: &[i64], dev: &mut P) -> Result<(),
     if words.len() as u64 != 8 * lines {
         return Err(StartFault::NoMemory);
     }
-    if let Err(_) = dev.blank(lines) {
+    let Ok(done) = dev.fill(words) else {
         return Err(StartFault::NoMemory);
+    };
+    if done {
+        return Ok(());
     }
-    match play_opening(dev, words, lines) {
-        Ok(()) => Ok(()),
-        Err(refusal) => Err(StartFault::of(refusal)),
-    }
+    write_lines(lines, words, dev)
 }
 
 /// Opens a pool of these sizes on blank lines, with the words of an image, as `open_lines` does.

@@ -9,7 +9,6 @@ ghost use Rattle.cnvm_session.specs.AnswerText.{answer_text, phase_name};
 use crate::answer::Answer;
 use nvm_base::Text;
 use pmem::Phase;
-use pool_map::word_digits;
 use std::alloc::{AllocError, Global};
 
 /// The text of an answer: its line with the LF, nothing for `Silent`, and the pool's lines for
@@ -103,10 +102,13 @@ fn number_text(
         text ≡ head.now ++ (word_text unsigned value
         ++ (codes " log " ++ (decimal logged ++ codes "\n")))) }
 {
-    let value = word_digits(alloc, unsigned, value)?;
-    let value = value.as_str();
-    let line = format!(in alloc; "{head}{value} log {logged}\n")?;
-    text_of(alloc, line.as_str())
+    let line = if unsigned {
+        let value = value.cast_unsigned();
+        format!(in alloc; "{head}{value} log {logged}\n")?
+    } else {
+        format!(in alloc; "{head}{value} log {logged}\n")?
+    };
+    Ok(Text::of(line))
 }
 
 fn last_text(alloc: Global, done: i64, value: i64) -> Result<Text, AllocError>
@@ -115,12 +117,12 @@ fn last_text(alloc: Global, done: i64, value: i64) -> Result<Text, AllocError>
         ++ (codes " " ++ (signed_decimal value ++ codes "\n")))) }
 {
     let line = format!(in alloc; "last {done} {value}\n")?;
-    text_of(alloc, line.as_str())
+    Ok(Text::of(line))
 }
 
 fn pick_text(alloc: Global, line: u64) -> Result<Text, AllocError>
     ensures { IfOk result (λ text. text ≡ codes "refused pick " ++ (decimal line ++ codes "\n")) }
 {
     let line = format!(in alloc; "refused pick {line}\n")?;
-    text_of(alloc, line.as_str())
+    Ok(Text::of(line))
 }

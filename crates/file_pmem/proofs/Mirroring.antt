@@ -1,19 +1,23 @@
 -- What a device's calls keep of its mirror.
-use Rattle.std.proofs.Common.{◌≡◌, ◌⊎◌, inl, ⊎_elim, ℕ, ◌+◌, ◌%◌, ◌*◌, ◌<◌, Bool, true, false, List}
+use Rattle.std.proofs.Common.{◌≡◌, ◌≢◌, ◌⊎◌, inl, ⊎_elim, ℕ, ◌+◌, ◌%◌, ◌*◌, ◌/◌, ◌<◌, ◌≤◌, Bool}
+use Rattle.std.proofs.Common.{true, false, cond, List, [], length, eq-eqb, ne_eqb}
 use Rattle.std.proofs.Common.{Option, Some, None, ℤ, refl, ap, sym, ◌∙◌, subst, arith, pos}
+use Rattle.std.specs.Prelude.{slice_index_or}
 use Rattle.std.proofs.lemmas.Bool.{cases_eq}
+use Rattle.std.proofs.lemmas.List.{get_or_past}
 use Rattle.cache_model.specs.Event.{Store, Flush, Fence}
-use Rattle.cache_model.specs.Cache.{Memory, blank, view}
+use Rattle.cache_model.specs.Cache.{Memory, blank, blank_line}
 use Rattle.cache_model.specs.Play.{after}
-use Rattle.cache_model.specs.Collapse.{collapse, left_cache}
+use Rattle.cache_model.specs.Collapse.{collapse}
 use Rattle.cache_model.specs.declared.choice.Choice.{Choice}
-use Rattle.cache_model.proofs.Collapses.{left_image}
 use Rattle.file_pmem.specs.File.{Copies, FileLines, IsCopy, AgreesAt, StaysFile, WritesFile}
 use Rattle.file_pmem.specs.File.{SyncsFile, IsZeroFile, file_written}
 use Rattle.file_pmem.specs.Mirror.{IsHeld, CoversCopies, MarksFit, IsMirror, IsFileCovered}
 use Rattle.file_pmem.specs.Mirror.{IsBlankPast, IsWell}
 use Rattle.file_pmem.specs.Mirror.{IsSynced, IsMirroring, is_mirrored, has_refused, given_up}
 use Rattle.file_pmem.specs.Mirror.{FileParts, file_shown, shown, shown_file}
+use Rattle.pmem.specs.Filled.{filled_cache, filled_memory}
+use Rattle.pmem.specs.Sparse.{newest_of}
 use Rattle.pmem.specs.Switch.{Gate}
 use Rattle.pmem.specs.declared.switch.Switch.{Switch}
 use Rattle.pmem.specs.declared.answer.Event.TheVariants.{Done}
@@ -195,18 +199,6 @@ newest_mirror (Some f) (Some g) n h is marks = attach g n
 newest_mirror None (Some g) n h is marks = absurd is
 newest_mirror (Some f) None n h is marks = absurd is
 
--- A power cut
-
-pub left_one_of : (m : Memory) (choice : Choice) → IsOneOf m (collapse m choice)
-unfolding view
-left_one_of m choice l lt =
-    let image = left_image m.cache choice.rest choice.picks l in (
-      image.0,
-      image.1,
-      λ p e. ap (λ (k : ℕ). (left_cache m.cache choice.rest choice.picks k).newest p)
-          (sym e) ∙ image.2 p e,
-    )
-
 -- A new file
 
 zeros : (a : Option FileLines) (n : ℕ) → IsZeroFile a
@@ -242,7 +234,47 @@ blank_mirroring s d a m n is e = mirroring_along s d a (record { lines = n; cach
       clean = λ f. absurd (asleep_not_awake s is f);
     })
 
+-- lines past the words are blank, and none has a mark
+
+past_words : (words : List ℤ) (l p : ℕ) → length words % 8 ≡ 0 → length words / 8 ≤ l
+    → newest_of words l p ≡ pos 0
+past_words words l p whole past =
+    let x : ℤ = slice_index_or words p (pos 0) in
+    ⊎_elim
+    (λ (same : p / 8 ≡ l).
+    let out : length words ≤ p = omega arith in
+    ap (λ (t : Bool). cond t x (pos 0)) (eq-eqb (p / 8) l same) ∙ get_or_past words p (pos 0) out)
+    (λ (other : p / 8 ≢ l). ap (λ (t : Bool). cond t x (pos 0)) (ne_eqb (p / 8) l other))
+    (cases_eq (p / 8) l)
+
+filled_past : (words : List ℤ) (l : ℕ) → length words % 8 ≡ 0 → length words / 8 ≤ l
+    → filled_cache words l ≡ blank_line
+filled_past words l whole past = λ i. record {
+  older = [];
+  newest = λ p. past_words words l p whole past i;
+  mark = None;
+}
+
+filled_well : (words : List ℤ) → length words % 8 ≡ 0 → IsWell (filled_memory words)
+filled_well words whole = record {
+  marks = λ l k e. absurd (no_mark None k refl e);
+  past = λ l le. filled_past words l whole le;
+}
+
+pub filled_mirroring : (s : MirrorState) (d : Bool) (a : Option FileLines) (m : Memory)
+    (words : List ℤ) → s ≡ Asleep → length words % 8 ≡ 0 → m ≡ filled_memory words
+    → IsMirroring s d a m
+filled_mirroring s d a m words is whole e = mirroring_along s d a (filled_memory words) m e
+    (record {
+      well = filled_well words whole;
+      covers = λ f. absurd (asleep_unmirrored s is f);
+      mirrors = λ f. absurd (asleep_not_awake s is f);
+      clean = λ f. absurd (asleep_not_awake s is f);
+    })
+
 pub ruleset blanks = (blank_mirroring, mirroring_along)
+
+pub ruleset fills = (filled_mirroring, mirroring_along)
 
 pub wake_mirroring : (s t : MirrorState) (d e : Bool) (a b : Option FileLines) (m : Memory)
     → b ≡ a → ((s ≡ Awake → IsSynced d a) → t ≡ Awake → IsSynced e b) → IsMirror a m
@@ -379,10 +411,6 @@ pub given_mirroring : (F : Type 0) (content : F → Option FileLines) (x y : Lin
     → IsMirroring y.state y.dirty (shown content y) n
 given_mirroring F content x y n e h =
     subst (λ (k : Link F). IsMirroring k.state k.dirty (shown content k) n) (sym e) h
-
-pub newest_none : (a : Option FileLines) (n : Memory) → AreNewest a n 0
-newest_none None n = tt
-newest_none (Some f) n = λ k lt. absurd (let h : ⊥ = omega arith in h)
 
 -- A power cut
 

@@ -1,11 +1,13 @@
 //! A device in memory that is mirrored in a file: a flush writes the line, and a fence syncs.
 
 ghost use Rattle.std.specs.Prelude.{◌≡◌, ◌≢◌, ◌⊎◌, ◌*◌, ◌+◌, ◌<◌, ◌≤◌, ◌^◌, true, false};
-ghost use Rattle.std.specs.Prelude.{Some, None, IsSome, IsNone, IfSome, OnOk, OnErr, IfErr};
+ghost use Rattle.std.specs.Prelude.{Some, None, IsSome, IsNone, IfSome, IfOk, OnOk, OnErr, IfErr};
+ghost use Rattle.std.specs.Prelude.{◌%◌, length};
 ghost use Rattle.cache_model.specs.Cache.{blank, view, Memory};
 ghost use Rattle.cache_model.specs.Event.{Store, Flush, Fence};
 ghost use Rattle.cache_model.specs.Collapse.{bad, Rises};
 ghost use Rattle.pmem.specs.Device.{memory_of, blanked, powered, with_left, with_armed};
+ghost use Rattle.pmem.specs.Filled.{filled};
 ghost use Rattle.pmem.specs.Played.{Answered, Stored};
 ghost use Rattle.pmem.specs.Switch.{untold, fresh_switch};
 ghost use Rattle.pmem.specs.Zeros.{IsFirstZero};
@@ -303,6 +305,18 @@ impl<L: Lines + Drop, F: LineFile + Drop> Pmem for FilePmem<L, F> {
         self.switch = Switch::fresh(self.switch.faults);
         self.link.rest();
         Ok(())
+    }
+
+    /// A sleeping file is kept, and any other is let go.
+    #[tactic(auto, using(crate::proofs::Mirroring::fills))]
+    fn fill(&mut self, words: &[i64]) -> Result<bool, AllocError> {
+        let Some(lines) = L::filled(self.alloc, words)? else {
+            return Ok(false);
+        };
+        self.lines = lines;
+        self.switch = Switch::fresh(self.switch.faults);
+        self.link.rest();
+        Ok(true)
     }
 
     #[tactic(auto, using(crate::proofs::Mirroring::mirroring_along))]

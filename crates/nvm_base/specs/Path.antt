@@ -1,6 +1,5 @@
 -- The path of the file that a source or a sink stands for, and what a kept one stands over.
 use Rattle.std.specs.Prelude.{ℕ, List, Option, option_map}
-use Rattle.nvm_base.specs.declared.kept_sink.KeptSink.{KeptSink}
 use Rattle.nvm_base.specs.declared.kept_source.KeptSource.{KeptSource}
 use Rattle.nvm_base.specs.declared.saved_file.SavedFile.{SavedFile}
 use Rattle.nvm_base.specs.declared.std_sink.StdSink.{StdSink}
@@ -19,6 +18,3 @@ path_of_saved saved = saved.path.now
 -- the source or the sink below
 abbrev pub source_below : {S : Type 0} → KeptSource S → S
 source_below kept = kept.source
-
-abbrev pub sink_below : {K : Type 0} → KeptSink K → K
-sink_below kept = kept.sink

@@ -38,7 +38,7 @@ impl From<AllocError> for UpToFault {
 }
 
 /// The most bytes that one read asks for.
-const PIECE: usize = 4096;
+const PIECE: usize = 16_384;
 
 /// Reads one piece and appends its bytes to those taken before. Returns the number of bytes read, 0
 /// at the end of input.

@@ -1,18 +1,21 @@
-//! A source that keeps a copy of what is read from it.
+//! A source that keeps a copy of what is read from it, or of the first bytes.
 
-ghost use Rattle.std.specs.Prelude.{◌≡◌, ◌++◌, true};
+ghost use Rattle.std.specs.Prelude.{◌≡◌, ◌++◌, ◌-◌, length, take, true};
 
 use crate::list::Bytes;
 use crate::source::{ReadAnswer, Source};
 use std::alloc::Global;
 
-/// A source over another, which keeps a copy of the bytes that were read. Clauses see what they see
-/// of the other.
+/// A source over another, which keeps a copy of the bytes that were read, at most so many. Clauses
+/// see what they see of the other.
 #[derive(Drop)]
 pub struct KeptSource<S> {
     pub(crate) source: S,
     kept: Bytes,
-    /// Whether every byte is kept: there was memory for each.
+    most: usize,
+    /// How many bytes were read.
+    count: u64,
+    /// Whether there was memory for each byte that is to be kept.
     whole: bool,
 }
 
@@ -21,9 +24,18 @@ impl<S: Source> KeptSource<S> {
     pub fn new(alloc: Global, source: S) -> Self
         ensures { result.source ≡ source }
     {
+        KeptSource::first(alloc, source, usize::MAX)
+    }
+
+    /// A source that keeps so many of the first bytes that are read from the other one; none yet.
+    pub fn first(alloc: Global, source: S, most: usize) -> Self
+        ensures { result.source ≡ source }
+    {
         KeptSource {
             source,
             kept: Bytes::new(alloc),
+            most,
+            count: 0,
             whole: true,
         }
     }
@@ -35,7 +47,13 @@ impl<S: Source> KeptSource<S> {
         &self.source
     }
 
-    /// All bytes that were read so far. `None` if there was no memory to keep them.
+    /// How many bytes were read so far.
+    pub fn count(&self) -> u64 {
+        self.count
+    }
+
+    /// The bytes that were read so far, or the first of them. `None` if there was no memory to keep
+    /// them.
     pub fn kept(&self) -> Option<&[u8]> {
         if self.whole {
             Some(self.kept.as_slice())
@@ -44,13 +62,18 @@ impl<S: Source> KeptSource<S> {
         }
     }
 
-    /// Keeps these bytes too.
+    /// Keeps these bytes too, as far as they are among the first.
+    #[tactic(auto, using(std::proofs::lemmas::List::take_min))]
     fn keep(&mut self, piece: &[u8])
         ensures whole { self.new.whole ≡ true → self.old.whole ≡ true }
-        ensures kept { self.new.whole ≡ true → self.new.kept ≡ self.old.kept ++ piece.now }
+        ensures kept { self.new.whole ≡ true → self.new.kept
+            ≡ self.old.kept ++ take (self.old.most - length self.old.kept) piece.now }
         ensures same { self.new.source ≡ self.old.source }
     {
-        self.whole = self.whole && self.kept.extend(piece).is_ok();
+        let room = self.most.saturating_sub(self.kept.as_slice().len());
+        let (first, _) = piece.split_at(room.min(piece.len()));
+        self.whole = self.whole && self.kept.extend(first).is_ok();
+        self.count = self.count.saturating_add(piece.len() as u64);
     }
 }
 

@@ -57,6 +57,20 @@ impl<T: Drop> List<T> {
         Ok(())
     }
 
+    /// Takes all items out, and keeps their memory.
+    pub fn clear(&mut self)
+        ensures { self.new ≡ [] }
+    {
+        self.items.clear();
+    }
+
+    /// Makes room for so many more items, if there is memory for them.
+    pub fn reserve(&mut self, more: usize)
+        ensures { self.new ≡ self.old }
+    {
+        let _ = self.items.reserve_exact(more);
+    }
+
     /// Writes another item at a place.
     pub fn set(&mut self, place: usize, item: T)
         requires { place < length self.old }

@@ -36,7 +36,7 @@ pub trait Sink {
         ensures count { faults self.old ≤ faults self.new };
 
     /// Commits what was written, for sinks that need it: a file that replaces an older one does so
-    /// here.
+    /// here, and a sink that holds bytes back writes them.
     fn finish(&mut self) -> Result<(), WriteFault>
         ensures kept { Keeps (written self.old) (written self.new) }
         ensures failed { OnErr result (Rose (faults self.old) (faults self.new)) }

@@ -27,6 +27,13 @@ impl Text {
         }
     }
 
+    /// The text of a string, in the string's memory.
+    pub fn of(all: String) -> Self
+        ensures { result ≡ string_bytes all }
+    {
+        Text { all }
+    }
+
     /// Appends a piece of text.
     pub fn push(&mut self, piece: &str) -> Result<(), AllocError>
         ensures ok { OnOk result (self.new ≡ self.old ++ piece.now) }

@@ -18,6 +18,7 @@ use Rattle.cache_model.specs.declared.choice.Rest.TheVariants.{Old, New}
 use Rattle.cache_model.specs.declared.choice.Pick.{Pick}
 use Rattle.cache_model.specs.declared.choice.Choice.{Choice}
 use Rattle.cache_model.proofs.Lists.{cond_same, zeros_at}
+use Rattle.pmem.specs.Filled.{filled_memory}
 use Rattle.pmem.specs.Sparse.{Older, Sparse, kept_at, newest_of, sparse_line, sparse_cache}
 use Rattle.pmem.specs.Sparse.{sparse_memory, IsTidySparse}
 use Rattle.pmem.specs.inside.Sparse.{left_older, or_newest, count_of}
@@ -185,23 +186,28 @@ blank_sparse s n count words none =
           };
     })
 
-pub blank_tidy : (s : Sparse) → s.words ≡ replicate (8 * s.count) (pos 0) → s.kept ≡ []
-    → IsTidySparse s
-blank_tidy s words none = record {
-  words = ap length words ∙ length-replicate (8 * s.count) (pos 0);
+pub filled_tidy : (s : Sparse) → length s.words ≡ 8 * s.count → s.kept ≡ [] → IsTidySparse s
+filled_tidy s whole none = record {
+  words = whole;
   lines = λ l y found. absurd (let no : Some y ≡ None = sym found
       ∙ ap (λ (f : List (ℕ × Older)). kept_at f l) none in cc);
   more = λ l y found. absurd (let no : Some y ≡ None = sym found
       ∙ ap (λ (f : List (ℕ × Older)). kept_at f l) none in cc);
 }
 
+pub blank_tidy : (s : Sparse) → s.words ≡ replicate (8 * s.count) (pos 0) → s.kept ≡ []
+    → IsTidySparse s
+blank_tidy s words none =
+    filled_tidy s (ap length words ∙ length-replicate (8 * s.count) (pos 0)) none
+
+pub filled_sparse : (s : Sparse) (words : List ℤ) → s.count ≡ length words / 8 → s.words ≡ words
+    → s.kept ≡ [] → sparse_memory s ≡ filled_memory words
+unfolding sparse_cache
+filled_sparse s all count words none =
+    λ i. sparse_memory (record { count = count i; words = words i; kept = none i })
+
 pub cut_tidy : (s : Sparse) (other : List ℤ) (es : List (ℕ × Older)) → IsTidySparse s
     → length other ≡ length s.words → es ≡ []
     → IsTidySparse (record { count = s.count; words = other; kept = es })
-cut_tidy s other es tidy len none = record {
-  words = len ∙ tidy.words;
-  lines = λ l y found. absurd (let no : Some y ≡ None = sym found
-      ∙ ap (λ (f : List (ℕ × Older)). kept_at f l) none in cc);
-  more = λ l y found. absurd (let no : Some y ≡ None = sym found
-      ∙ ap (λ (f : List (ℕ × Older)). kept_at f l) none in cc);
-}
+cut_tidy s other es tidy len none =
+    filled_tidy (record { count = s.count; words = other; kept = es }) (len ∙ tidy.words) none

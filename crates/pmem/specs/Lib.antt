@@ -5,6 +5,7 @@ pub mod Switch
 pub mod Law
 pub mod Fail
 pub mod Sparse
+pub mod Filled
 pub mod Kept
 pub mod Zeros
 pub mod inside

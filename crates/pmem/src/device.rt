@@ -2,11 +2,12 @@
 //! the switch.
 
 ghost use Rattle.std.specs.Prelude.{◌≡◌, ◌*◌, ◌<◌, ◌≤◌, true, false, Some, None, IsSome, IsNone};
-ghost use Rattle.std.specs.Prelude.{IfSome, OnOk, OnErr, IfErr, ◌+◌, ◌^◌};
+ghost use Rattle.std.specs.Prelude.{IfSome, OnOk, OnErr, IfErr, IfOk, ◌+◌, ◌%◌, ◌^◌, length};
 ghost use Rattle.cache_model.specs.Cache.{view};
 ghost use Rattle.cache_model.specs.Event.{Store, Flush, Fence};
 ghost use Rattle.cache_model.specs.Collapse.{bad, version_count, Rises};
 ghost use Rattle.pmem.specs.Device.{Device, memory_of, blanked, powered, with_left, with_armed};
+ghost use Rattle.pmem.specs.Filled.{filled};
 ghost use Rattle.pmem.specs.Played.{Answered, Stored};
 ghost use Rattle.pmem.specs.Zeros.{IsFirstZero};
 
@@ -67,6 +68,17 @@ pub trait Pmem: PmemWork {
     /// is as before.
     fn blank(&mut self, lines: u64) -> Result<(), AllocError>
         ensures done { OnOk result (Self.device self.new ≡ blanked lines (Self.device self.old)) }
+        ensures refused { OnErr result (Self.device self.new ≡ Self.device self.old) };
+
+    /// Makes lines with these words, one version each, and switches the device on, with nothing
+    /// armed. It answers whether it does so; a device may take words by their stores alone. After
+    /// `AllocError` and `false` all is as before.
+    fn fill(&mut self, words: &[i64]) -> Result<bool, AllocError>
+        requires { length words.now % 8 ≡ 0 }
+        ensures done { IfOk result (λ done. done ≡ true
+            → Self.device self.new ≡ filled words.now (Self.device self.old)) }
+        ensures other { IfOk result (λ done. done ≡ false
+            → Self.device self.new ≡ Self.device self.old) }
         ensures refused { OnErr result (Self.device self.new ≡ Self.device self.old) };
 
     /// Cuts each line to the version that the choice says and switches the device on. On `BadPick`,

@@ -1,13 +1,15 @@
 //! A device in memory that fails at one chosen event, for tests. It doesn't show its armed fault.
 
 ghost use Rattle.std.specs.Prelude.{◌≡◌, ◌*◌, ◌<◌, ◌+◌, ◌-◌, ◌^◌, min, length, true, false, Some};
-ghost use Rattle.std.specs.Prelude.{None, [], IsSome, IsNone, IfSome, OnOk, OnErr, IfErr};
+ghost use Rattle.std.specs.Prelude.{None, [], IsSome, IsNone, IfSome, IfOk, OnOk, OnErr, IfErr};
+ghost use Rattle.std.specs.Prelude.{◌%◌};
 ghost use Rattle.cache_model.specs.Cache.{blank, view};
 ghost use Rattle.cache_model.specs.Event.{Store, Flush, Fence};
 ghost use Rattle.cache_model.specs.Collapse.{bad, version_count, Rises};
 ghost use Rattle.pmem.specs.Device.{Device, memory_of, blanked, powered, with_left, with_armed};
 ghost use Rattle.pmem.specs.Played.{Answered, Stored};
 ghost use Rattle.pmem.specs.Switch.{told_device, fresh_switch};
+ghost use Rattle.pmem.specs.Filled.{filled};
 ghost use Rattle.pmem.specs.Fail.{fail_device, fail_inside, next_number, FailAnswered, FailStored};
 
 use crate::answer::{Event, StoreEvent};
@@ -146,6 +148,18 @@ impl Pmem for FailPmem {
         self.cache = Cache::new(self.alloc, lines)?;
         self.switch = Switch::fresh(self.switch.faults);
         Ok(())
+    }
+
+    fn fill(&mut self, words: &[i64]) -> Result<bool, AllocError>
+        requires { length words.now % 8 ≡ 0 }
+        ensures done { IfOk result (λ done. done ≡ true
+            → fail_device self.new ≡ filled words.now (fail_device self.old)) }
+        ensures other { IfOk result (λ done. done ≡ false
+            → fail_device self.new ≡ fail_device self.old) }
+        ensures refused { OnErr result (fail_device self.new ≡ fail_device self.old) }
+        ensures same { self.new ≡ self.old }
+    {
+        Ok(false)
     }
 
     fn power(&mut self, choice: &Choice) -> Result<(), BadPick>

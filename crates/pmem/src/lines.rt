@@ -1,12 +1,13 @@
 //! The lines of a device in memory, which may be kept in more than one way.
 
-ghost use Rattle.std.specs.Prelude.{◌≡◌, ◌+◌, ◌*◌, ◌^◌, ◌<◌, ◌≤◌, length, None, Some, OnOk};
-ghost use Rattle.std.specs.Prelude.{OnErr, IfOk, IfErr};
+ghost use Rattle.std.specs.Prelude.{◌≡◌, ◌+◌, ◌*◌, ◌%◌, ◌^◌, ◌<◌, ◌≤◌, length, None, Some, OnOk};
+ghost use Rattle.std.specs.Prelude.{OnErr, IfOk, IfErr, IfSome};
 ghost use Rattle.cache_model.specs.Cache.{Memory, blank, view};
 ghost use Rattle.cache_model.specs.Event.{Store, Flush, Fence};
 ghost use Rattle.cache_model.specs.Play.{after};
 ghost use Rattle.cache_model.specs.Collapse.{bad, version_count, collapse, Rises};
 ghost use Rattle.cache_model.specs.Lists.{memory_from};
+ghost use Rattle.pmem.specs.Filled.{filled_memory};
 ghost use Rattle.pmem.specs.Zeros.{IsFirstZero};
 
 use cache_model::{BadPick, Cache, Choice};
@@ -23,6 +24,12 @@ pub trait Lines {
     /// Makes `count` blank lines.
     fn blank(alloc: Global, count: u64) -> Result<Self, AllocError>
         ensures { IfOk result (λ s. memory s ≡ record { lines = count; cache = blank }) };
+
+    /// Lines with these words, one version each, or `None` if this memory doesn't take words at
+    /// once.
+    fn filled(alloc: Global, words: &[i64]) -> Result<Option<Self>, AllocError>
+        requires { length words.now % 8 ≡ 0 }
+        ensures { IfOk result (λ found. IfSome found (λ s. memory s ≡ filled_memory words.now)) };
 
     /// The number of lines.
     fn count(&self) -> u64
@@ -96,6 +103,10 @@ impl Lines for Cache {
 
     fn blank(alloc: Global, count: u64) -> Result<Self, AllocError> {
         Cache::new(alloc, count)
+    }
+
+    fn filled(alloc: Global, words: &[i64]) -> Result<Option<Self>, AllocError> {
+        Ok(None)
     }
 
     fn count(&self) -> u64 {

@@ -1,7 +1,7 @@
 //! The device in memory. It shows its armed fault, and fails exactly there.
 
 ghost use Rattle.std.specs.Prelude.{◌≡◌, ◌*◌, ◌+◌, ◌<◌, length, slice_index_or, true, false, Some};
-ghost use Rattle.std.specs.Prelude.{None, IsSome, IsNone, IfSome, OnOk, OnErr, IfErr};
+ghost use Rattle.std.specs.Prelude.{None, IsSome, IsNone, IfSome, OnOk, OnErr, IfErr, IfOk, ◌%◌};
 ghost use Rattle.cache_model.specs.Cache.{blank, view};
 ghost use Rattle.cache_model.specs.Event.{Store, Flush, Fence};
 ghost use Rattle.cache_model.specs.Collapse.{bad, Rises};
@@ -9,6 +9,7 @@ ghost use Rattle.cache_model.specs.Lists.{blank_list};
 ghost use Rattle.pmem.specs.Device.{Device, memory_of, blanked, powered, with_left, with_armed};
 ghost use Rattle.pmem.specs.Played.{Answered, Stored};
 ghost use Rattle.pmem.specs.Switch.{told_device, fresh_switch};
+ghost use Rattle.pmem.specs.Filled.{filled};
 ghost use Rattle.pmem.specs.Kept.{more_lines};
 ghost use Rattle.pmem.specs.Sparse.{sparse_memory};
 
@@ -128,6 +129,15 @@ impl<L: Lines + Drop> Pmem for MemPmem<L> {
         self.lines = L::blank(self.alloc, lines)?;
         self.switch = Switch::fresh(self.switch.faults);
         Ok(())
+    }
+
+    fn fill(&mut self, words: &[i64]) -> Result<bool, AllocError> {
+        let Some(lines) = L::filled(self.alloc, words)? else {
+            return Ok(false);
+        };
+        self.lines = lines;
+        self.switch = Switch::fresh(self.switch.faults);
+        Ok(true)
     }
 
     fn power(&mut self, choice: &Choice) -> Result<(), BadPick> {

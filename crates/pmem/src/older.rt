@@ -1,7 +1,7 @@
 //! The older versions of a line.
 
-ghost use Rattle.std.specs.Prelude.{◌≡◌, ◌<◌, ◌^◌, ◌++◌, ◌∷◌, [], OnOk, OnErr, IfOk, length};
-ghost use Rattle.std.specs.Prelude.{slice_get, None};
+ghost use Rattle.std.specs.Prelude.{◌≡◌, ◌<◌, ◌≤◌, ◌^◌, ◌++◌, ◌∷◌, [], OnOk, OnErr, IfOk, length};
+ghost use Rattle.std.specs.Prelude.{slice_get, None, drop};
 ghost use Rattle.pmem.specs.inside.Sparse.{flush_older, fence_older, has_older, left_older};
 
 use cache_model::Rest;
@@ -109,8 +109,21 @@ impl Kept {
         ensures { self.new ≡ fence_older self.old }
     {
         if let Some(k) = self.mark {
-            self.versions.drain(..k);
+            drop_first(&mut self.versions, k);
             self.mark = None;
         }
+    }
+}
+
+/// Drops the first versions; mostly they are all.
+#[tactic(auto, using(std::proofs::lemmas::List::drop_all))]
+fn drop_first(versions: &mut Vec<[i64; 8]>, count: usize)
+    requires { count ≤ length versions.old.items }
+    ensures { versions.new.items ≡ drop count versions.old.items }
+{
+    if count == versions.len() {
+        versions.clear();
+    } else {
+        versions.drain(..count);
     }
 }

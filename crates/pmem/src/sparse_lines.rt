@@ -3,6 +3,7 @@
 ghost use Rattle.std.specs.Prelude.{◌≡◌, ◌⊎◌, ◌*◌, ◌+◌, ◌/◌, ◌%◌, ◌<◌, ◌≤◌, ◌==◌, cond, ℕ, Some};
 ghost use Rattle.std.specs.Prelude.{None, OnOk, OnErr, IfOk, IfErr, [], ◌∷◌, ◌++◌, true};
 ghost use Rattle.std.specs.Prelude.{false, length, slice_range, slice_index_or, pos, nat_lt};
+ghost use Rattle.std.specs.Prelude.{IfSome};
 ghost use Rattle.std.specs.Ordering.{nat_cmp};
 ghost use Rattle.std.specs.BTreeMap.{is_at};
 ghost use Rattle.std.specs.Option.{option_map};
@@ -11,6 +12,7 @@ ghost use Rattle.cache_model.specs.Play.{after};
 ghost use Rattle.cache_model.specs.Cache.{blank, view};
 ghost use Rattle.cache_model.specs.Collapse.{picked, kept, is_good_pick, version_count, bad};
 ghost use Rattle.cache_model.specs.Collapse.{collapse};
+ghost use Rattle.pmem.specs.Filled.{filled_memory};
 ghost use Rattle.pmem.specs.Kept.{more_lines};
 ghost use Rattle.pmem.specs.Sparse.{Older, sparse_line, sparse_cache, sparse_memory, newest_of};
 ghost use Rattle.pmem.specs.Sparse.{kept_at};
@@ -57,6 +59,25 @@ impl Model for SparseLines {
 }
 
 impl SparseLines {
+    /// Lines with these words, one version each.
+    fn of_words(alloc: Global, words: &[i64]) -> Result<Self, AllocError>
+        requires { length words.now % 8 ≡ 0 }
+        ensures { IfOk result (λ s. sparse_memory s ≡ filled_memory words.now) }
+    {
+        let count = words.len() as u64 / 8;
+        let kept = KeptLines::blank(alloc, count)?;
+        let mut all = Vec::with_capacity(alloc, words.len())?;
+        all.extend_from_slice(words)?;
+        Ok(SparseLines {
+            count,
+            words: all,
+            kept,
+            marked: Vec::new(alloc),
+            unlisted: false,
+            full: FullWords::new(alloc),
+        })
+    }
+
     /// The number of lines with more than one version.
     pub fn kept(&self) -> u64
         ensures { result ≡ more_lines (sparse_memory self.now) }
@@ -136,6 +157,10 @@ impl Lines for SparseLines {
             unlisted: false,
             full: FullWords::new(alloc),
         })
+    }
+
+    fn filled(alloc: Global, words: &[i64]) -> Result<Option<Self>, AllocError> {
+        Ok(Some(SparseLines::of_words(alloc, words)?))
     }
 
     fn load(&self, word: u64) -> i64 {

@@ -35,7 +35,7 @@ rules_second wanted bytes is =
       structs = wanted.structs;
     } in r) is
 
-pub opened_second : (wanted : Wanted) (bytes : List ℕ) (all : List ℤ) → Accepts wanted bytes
+opened_second : (wanted : Wanted) (bytes : List ℕ) (all : List ℤ) → Accepts wanted bytes
     → version_of bytes ≡ Second → length all ≡ 8 * pool_lines wanted.sizes → 16 ≤ length bytes
     → image_words all ≡ word_in bytes → IsOpened wanted all
 opened_second wanted bytes all accepts is len long agree =
@@ -54,17 +54,14 @@ opened_second wanted bytes all accepts is len long agree =
       opens = subst (λ (i : Words). IsOpenable (wanted_rules wanted) i) (sym agree) opens;
     }
 
-pub opened_read : {E : Type 0} (wanted : Wanted) (bytes : List ℕ) (r : Result (List ℤ) E)
-    → Accepts wanted bytes → version_of bytes ≡ Second → length bytes ≡ needed wanted bytes
-    → IfOk r (λ all. 8 * length all ≡ length bytes)
-    → IfOk r (λ all. image_words all ≡ word_in bytes)
-    → IfOk r (λ all. IsOpened wanted all)
-opened_read wanted bytes (Ok all) accepts is whole len agree =
+pub opened_read : (wanted : Wanted) (bytes : List ℕ) (all : List ℤ) → Accepts wanted bytes
+    → version_of bytes ≡ Second → length bytes ≡ needed wanted bytes
+    → 8 * length all ≡ length bytes → image_words all ≡ word_in bytes → IsOpened wanted all
+opened_read wanted bytes all accepts is whole len agree =
     let lines : log_line (version_of bytes) ≡ 6 = ap log_line is in
     let long : 16 ≤ length bytes = omega arith in
     let room : length all ≡ 8 * pool_lines wanted.sizes = omega arith in
     opened_second wanted bytes all accepts is room long agree
-opened_read wanted bytes (Err e) accepts is whole len agree = tt
 
 -- first version: the words that are answered are the moved pool's
 

@@ -1,11 +1,14 @@
 pub mod Words
+pub mod KeptWords
 pub mod Slots
 pub mod Apart
 pub mod Undone
 pub mod Records
 pub mod Kept
+pub mod Skipping
 pub mod Moving
 pub mod Opening
 pub mod Early
 pub mod Superblock
 pub mod Answer
+pub mod Added

@@ -1,15 +1,12 @@
 -- Words to bytes, and back.
 use Rattle.std.proofs.Common.{◌≡◌, ◌<◌, ◌≤◌, ◌++◌, ◌+◌, ◌*◌, ◌^◌, ◌∷◌, [], ℕ, ℤ, pos, zero, suc}
 use Rattle.std.proofs.Common.{List, length, take, drop, get_or, refl, sym, ap, ◌∙◌, append_assoc}
-use Rattle.std.proofs.Common.{add-one, arith, length-drop, ◌≢◌, ⊎_elim}
+use Rattle.std.proofs.Common.{add-one, arith, length-drop, length-append}
 use Rattle.std.specs.Int.{w64, cast_signed, cast_unsigned, from_le_bytes, to_le_bytes}
-use Rattle.std.proofs.Math.Seq.{drop-cons, take-add, get_or-append_seam}
-use Rattle.std.proofs.lemmas.List.{get_or-drop, get_or_past, append-nil}
+use Rattle.std.proofs.Math.Seq.{drop-cons, take-add, take-append_seam}
+use Rattle.std.proofs.lemmas.List.{get_or-drop, get_or_past, append-nil, length-take-le}
 use Rattle.std.proofs.lemmas.Nat.{le_bytes_8}
 use Rattle.std.proofs.lemmas.Int.{of_z-to_z}
-use Rattle.std.proofs.Math.ListN.{get_or-append}
-use Rattle.std.proofs.lemmas.Bool.{cases_eq, cases_lt}
-use Rattle.pool_layout.specs.Image.{image_words}
 use Rattle.pool_layout.specs.Bytes.{bytes_of, bytes_of_word, word_from, word_in}
 
 -- one more of the words that are left
@@ -23,8 +20,20 @@ bytes_of-append [] ys = refl
 bytes_of-append (x ∷ xs) ys = ap (λ (bs : List ℕ). bytes_of_word x ++ bs) (bytes_of-append xs ys)
     ∙ sym (append_assoc (bytes_of_word x) (bytes_of xs) (bytes_of ys))
 
+-- eight bytes that were copied into others
+pub put_bytes : (piece bytes new : List ℕ) (at : ℕ)
+    → new ≡ (take at piece ++ bytes) ++ drop (at + 8) piece → length bytes ≡ 8
+    → at + 8 ≤ length piece → take (at + 8) new ≡ take at piece ++ bytes
+put_bytes piece bytes new at is eight room =
+    let first : length (take at piece) ≡ at = length-take-le at piece (omega arith) in
+    let both : length (take at piece ++ bytes) ≡ at + 8 =
+    length-append (take at piece) bytes ∙ omega arith in
+    ap (take (at + 8)) is
+    ∙ ap (λ (n : ℕ). take n ((take at piece ++ bytes) ++ drop (at + 8) piece)) (sym both)
+    ∙ take-append_seam (take at piece ++ bytes) (drop (at + 8) piece)
+
 -- the first eight of a list
-abbrev eight : List ℕ → List ℕ
+abbrev pub eight : List ℕ → List ℕ
 eight xs = get_or xs 0 0 ∷ get_or xs 1 0 ∷ get_or xs 2 0 ∷ get_or xs 3 0 ∷ get_or xs 4 0
     ∷ get_or xs 5 0 ∷ get_or xs 6 0 ∷ get_or xs 7 0 ∷ []
 
@@ -59,7 +68,7 @@ eight_word xs le all =
     le_bytes_8 (eight xs) (cast_unsigned w64 (cast_signed w64 (from_le_bytes w64 (eight xs)))) refl
     (eight_bytes xs all) (of_z-to_z w64 (from_le_bytes w64 (eight xs)) fits) ∙ eight_take xs le
 
-eight_at : (bytes : List ℕ) (at : ℕ) → eight (drop at bytes) ≡ get_or bytes at 0
+pub eight_at : (bytes : List ℕ) (at : ℕ) → eight (drop at bytes) ≡ get_or bytes at 0
     ∷ get_or bytes (at + 1) 0 ∷ get_or bytes (at + 2) 0 ∷ get_or bytes (at + 3) 0
     ∷ get_or bytes (at + 4) 0 ∷ get_or bytes (at + 5) 0 ∷ get_or bytes (at + 6) 0
     ∷ get_or bytes (at + 7) 0 ∷ []
@@ -87,25 +96,22 @@ word_bytes bytes at le all =
     ∙ eight_word (drop at bytes) room (λ i. rw get_or-drop (all (at + i)))
 
 -- one more of the words that are read
-pub bytes_of-more : (bytes : List ℕ) (ws : List ℤ) (k : ℕ) → ((i : ℕ) → get_or bytes i 0 < 256)
-    → 8 * k + 8 ≤ length bytes → bytes_of ws ≡ take (8 * k) bytes
-    → bytes_of (ws ++ word_in bytes k ∷ []) ≡ take (8 * (k + 1)) bytes
-bytes_of-more bytes ws k all le so_far =
+pub bytes_of-more : (old bytes : List ℕ) (ws : List ℤ) (k : ℕ)
+    → ((i : ℕ) → get_or bytes i 0 < 256) → 8 * k + 8 ≤ length bytes
+    → bytes_of ws ≡ old ++ take (8 * k) bytes
+    → bytes_of (ws ++ word_in bytes k ∷ []) ≡ old ++ take (8 * (k + 1)) bytes
+bytes_of-more old bytes ws k all le so_far =
     let next : 8 * (k + 1) ≡ 8 * k + 8 = omega arith in
+    let word : bytes_of_word (word_in bytes k) ++ [] ≡ take 8 (drop (8 * k) bytes) =
+    append-nil (bytes_of_word (word_in bytes k)) ∙ word_bytes bytes (8 * k) le all in
     bytes_of-append ws (word_in bytes k ∷ [])
-    ∙ rw (append-nil, so_far, word_bytes bytes (8 * k) le all, next, take-add (8 * k) 8 bytes) refl
-
-pub each-more : (bytes : List ℕ) (ws : List ℤ) (k : ℕ) (x : ℤ) → length ws ≡ k
-    → ((p : ℕ) → p < k → get_or ws p (pos 0) ≡ word_in bytes p) → x ≡ word_in bytes k → (p : ℕ)
-    → p < k + 1 → get_or (ws ++ x ∷ []) p (pos 0) ≡ word_in bytes p
-each-more bytes ws k x len each is p lt = ⊎_elim
-    (λ (same : p ≡ k). ap (λ (i : ℕ). get_or (ws ++ x ∷ []) i (pos 0)) (same ∙ sym len)
-    ∙ get_or-append_seam ws x [] (pos 0) ∙ is ∙ ap (word_in bytes) (sym same))
-    (λ (ne : p ≢ k). get_or-append ws (x ∷ []) (pos 0) p (omega arith) ∙ each p (omega arith))
-    (cases_eq p k)
+    ∙ (λ i. so_far i ++ word i)
+    ∙ append_assoc old (take (8 * k) bytes) (take 8 (drop (8 * k) bytes))
+    ∙ ap (λ (bs : List ℕ). old ++ bs)
+    (sym (ap (λ (n : ℕ). take n bytes) next ∙ take-add (8 * k) 8 bytes))
 
 -- past the end of the bytes, a word is 0
-word_after : (bytes : List ℕ) (at : ℕ) → length bytes ≤ at → word_from bytes at ≡ pos 0
+pub word_after : (bytes : List ℕ) (at : ℕ) → length bytes ≤ at → word_from bytes at ≡ pos 0
 unfolding word_from
 word_after bytes at le =
     rw (
@@ -118,15 +124,3 @@ word_after bytes at le =
       get_or_past bytes (at + 6) 0 (omega arith),
       get_or_past bytes (at + 7) 0 (omega arith),
     ) refl
-
--- the words of all bytes, as functions
-pub words_agree : (bytes : List ℕ) (ws : List ℤ) (k : ℕ) → length bytes ≤ 8 * k → length ws ≡ k
-    → ((p : ℕ) → p < k → get_or ws p (pos 0) ≡ word_in bytes p) → image_words ws ≡ word_in bytes
-words_agree bytes ws k whole len each = λ i p. one p i
-  where
-    one : (p : ℕ) → get_or ws p (pos 0) ≡ word_in bytes p
-    one p = ⊎_elim
-        (λ (lt : p < k). each p lt)
-        (λ (ge : k ≤ p). get_or_past ws p (pos 0) (omega arith)
-        ∙ sym (word_after bytes (8 * p) (omega arith)))
-        (cases_lt p k)

@@ -2,6 +2,7 @@ pub mod Limits
 pub mod Sizes
 pub mod Digest
 pub mod Bytes
+pub mod Taken
 pub mod Places
 pub mod Image
 pub mod Headers

@@ -1,6 +1,6 @@
 //! Words as bytes: eight bytes to a word, the lowest first.
 
-ghost use Rattle.std.specs.Prelude.{◌≡◌, ◌≤◌, ◌+◌, ◌*◌, ◌++◌, IfOk, OnOk, length};
+ghost use Rattle.std.specs.Prelude.{◌≡◌, ◌≤◌, ◌+◌, ◌*◌, ◌++◌, IfOk, OnOk, length, take};
 ghost use Rattle.pool_layout.specs.Bytes as bytes_are;
 
 use nvm_base::Bytes;
@@ -22,6 +22,18 @@ fn push_word(bytes: &mut Bytes, word: i64) -> Result<(), AllocError>
     ensures { OnOk result (bytes.new ≡ bytes.old ++ bytes_are.bytes_of_word word) }
 {
     bytes.extend(&word.to_le_bytes())
+}
+
+/// Puts the bytes of a word at place `k` of a piece of words.
+#[tactic(auto, using(crate::proofs::Words::put_bytes), unfolding(crate::specs::Bytes::bytes_of_word))]
+pub fn put_word(piece: &mut [u8], k: usize, word: i64)
+    requires { 8 * k + 8 ≤ length piece.old }
+    ensures put { take (8 * (k + 1)) piece.new
+        ≡ take (8 * k) piece.old ++ bytes_are.bytes_of_word word }
+    ensures length { length piece.new ≡ length piece.old }
+{
+    let at = 8 * k;
+    piece[at..at + 8].copy_from_slice(&word.to_le_bytes());
 }
 
 /// Word `k` of these bytes.

@@ -6,11 +6,12 @@ ghost use Rattle.pool_layout.specs.Fault as fault_of;
 
 use crate::bytes::word_in;
 use crate::places::{Layout, Version};
+use crate::raw::RawImage;
 use crate::rules::Rules;
 use crate::wanted::{ImageFault, Wanted};
 
 /// The rules of content for an image with these bytes.
-pub fn rules_for(bytes: &[u8], wanted: &Wanted) -> Rules
+pub fn rules_for(bytes: &RawImage, wanted: &Wanted) -> Rules
     ensures { result ≡ fault_of.rules_of wanted.now bytes.now }
 {
     Rules {
@@ -23,10 +24,10 @@ pub fn rules_for(bytes: &[u8], wanted: &Wanted) -> Rules
     }
 }
 
-fn version_of(bytes: &[u8]) -> Version
+fn version_of(bytes: &RawImage) -> Version
     ensures { result ≡ fault_of.version_of bytes.now }
 {
-    if bytes.len() >= 16 && word_in(bytes, 1) == 1 {
+    if bytes.len() >= 16 && bytes.word(1) == 1 {
         Version::First
     } else {
         Version::Second
@@ -35,7 +36,7 @@ fn version_of(bytes: &[u8]) -> Version
 
 /// The first fault before those of content that applies.
 #[tactic(auto, unfolding(crate::specs::Fault::early_fault))]
-pub fn early_fault(bytes: &[u8], wanted: &Wanted) -> Option<ImageFault>
+pub fn early_fault(bytes: &RawImage, wanted: &Wanted) -> Option<ImageFault>
     ensures value { result ≡ fault_of.early_fault wanted.now bytes.now }
     ensures whole { IfNone result (length bytes.now ≡ fault_of.needed wanted.now bytes.now) }
 {
@@ -58,12 +59,12 @@ pub fn early_fault(bytes: &[u8], wanted: &Wanted) -> Option<ImageFault>
     digest_fault(bytes, wanted)
 }
 
-fn short_fault(bytes: &[u8], wanted: &Wanted) -> Option<ImageFault>
+fn short_fault(bytes: &RawImage, wanted: &Wanted) -> Option<ImageFault>
     ensures value { result ≡ fault_of.short_fault wanted.now bytes.now }
     ensures long { IfNone result (fault_of.needed wanted.now bytes.now ≤ length bytes.now) }
 {
     let needed = needed(bytes, wanted);
-    let found = bytes.len() as u64;
+    let found = bytes.len();
     if found < needed {
         Some(ImageFault::Short(found, needed))
     } else {
@@ -71,11 +72,11 @@ fn short_fault(bytes: &[u8], wanted: &Wanted) -> Option<ImageFault>
     }
 }
 
-fn magic_fault(bytes: &[u8]) -> Option<ImageFault>
+fn magic_fault(bytes: &RawImage) -> Option<ImageFault>
     requires { 8 ≤ length bytes.now }
     ensures { result ≡ fault_of.magic_fault bytes.now }
 {
-    let found = word_in(bytes, 0);
+    let found = bytes.word(0);
     if found == magic() {
         None
     } else {
@@ -83,11 +84,11 @@ fn magic_fault(bytes: &[u8]) -> Option<ImageFault>
     }
 }
 
-fn version_fault(bytes: &[u8]) -> Option<ImageFault>
+fn version_fault(bytes: &RawImage) -> Option<ImageFault>
     requires { 16 ≤ length bytes.now }
     ensures { result ≡ fault_of.version_fault bytes.now }
 {
-    let found = word_in(bytes, 1);
+    let found = bytes.word(1);
     if found == 1 || found == 2 {
         None
     } else {
@@ -95,7 +96,7 @@ fn version_fault(bytes: &[u8]) -> Option<ImageFault>
     }
 }
 
-fn sizes_fault(bytes: &[u8], wanted: &Wanted) -> Option<ImageFault>
+fn sizes_fault(bytes: &RawImage, wanted: &Wanted) -> Option<ImageFault>
     requires { 48 ≤ length bytes.now }
     ensures value { result ≡ fault_of.sizes_fault wanted.now bytes.now }
     ensures long { IfNone result (length bytes.now ≤ fault_of.needed wanted.now bytes.now) }
@@ -120,13 +121,13 @@ fn sizes_fault(bytes: &[u8], wanted: &Wanted) -> Option<ImageFault>
 }
 
 /// The fault if word `k` of the first line isn't this size.
-fn size_fault(bytes: &[u8], k: u64, wanted: u64) -> Option<ImageFault>
+fn size_fault(bytes: &RawImage, k: u64, wanted: u64) -> Option<ImageFault>
     requires line { k < 6 }
     requires whole { 48 ≤ length bytes.now }
     requires small { wanted ≤ 1048576 }
     ensures { result ≡ fault_of.size_fault bytes.now k wanted }
 {
-    let found = word_in(bytes, k);
+    let found = bytes.word(k);
     if found == wanted as i64 {
         None
     } else {
@@ -134,23 +135,23 @@ fn size_fault(bytes: &[u8], k: u64, wanted: u64) -> Option<ImageFault>
     }
 }
 
-fn length_fault(bytes: &[u8], wanted: &Wanted) -> Option<ImageFault>
+fn length_fault(bytes: &RawImage, wanted: &Wanted) -> Option<ImageFault>
     ensures value { result ≡ fault_of.length_fault wanted.now bytes.now }
     ensures long { IfNone result (length bytes.now ≤ fault_of.needed wanted.now bytes.now) }
 {
     let needed = needed(bytes, wanted);
-    if bytes.len() as u64 > needed {
+    if bytes.len() > needed {
         Some(ImageFault::Sizes(bytes.len() as i64, needed as i64))
     } else {
         None
     }
 }
 
-fn digest_fault(bytes: &[u8], wanted: &Wanted) -> Option<ImageFault>
+fn digest_fault(bytes: &RawImage, wanted: &Wanted) -> Option<ImageFault>
     requires { 96 ≤ length bytes.now }
     ensures { result ≡ fault_of.digest_fault wanted.now bytes.now }
 {
-    let found = digest_in(bytes);
+    let found = found_digest(bytes);
     if found == wanted.digest {
         None
     } else {
@@ -159,6 +160,14 @@ fn digest_fault(bytes: &[u8], wanted: &Wanted) -> Option<ImageFault>
 }
 
 /// The digest: words 8 to 11.
+fn found_digest(bytes: &RawImage) -> [i64; 4]
+    requires { 96 ≤ length bytes.now }
+    ensures { result ≡ fault_of.digest_in bytes.now }
+{
+    [bytes.word(8), bytes.word(9), bytes.word(10), bytes.word(11)]
+}
+
+/// The digest of an image that begins with these bytes.
 pub fn digest_in(bytes: &[u8]) -> [i64; 4]
     requires { 96 ≤ length bytes.now }
     ensures { result ≡ fault_of.digest_in bytes.now }
@@ -172,7 +181,7 @@ pub fn digest_in(bytes: &[u8]) -> [i64; 4]
 }
 
 /// The number of bytes of an image of the version that these bytes begin with.
-fn needed(bytes: &[u8], wanted: &Wanted) -> u64
+fn needed(bytes: &RawImage, wanted: &Wanted) -> u64
     ensures value { result ≡ fault_of.needed wanted.now bytes.now }
     ensures least { 640 ≤ result + 128 }
     ensures most { result ≤ 4299686272 }

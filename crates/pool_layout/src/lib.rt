@@ -11,11 +11,13 @@ mod image_laws;
 mod limits;
 mod measures;
 mod places;
+mod raw;
 mod read;
 mod rules;
+mod taking;
 mod wanted;
 
-pub use bytes::image_bytes;
+pub use bytes::{image_bytes, put_word};
 pub use fingerprint::digest;
 pub use head::{digest_in, magic};
 pub use image_laws::{moved_law, opens_law, restored_law};
@@ -25,6 +27,8 @@ pub use places::{
     ARGUMENTS, ATTEMPT, DONE, FIRST_ARGUMENT, FUNCTION, HeapPlace, LAST, Layout, MARK, Place, SEAL,
     SUPER_WORDS, Version, places_law,
 };
+pub use raw::RawImage;
 pub use read::read_image;
 pub use rules::Rules;
+pub use taking::read_onto;
 pub use wanted::{ImageFault, Wanted};

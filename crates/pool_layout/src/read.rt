@@ -2,17 +2,15 @@
 
 ghost use Rattle.std.specs.Prelude.{◌≡◌, ◌≤◌, ◌*◌, IfOk, IfErr, OnOk, length};
 ghost use Rattle.pool_layout.specs.Bytes as bytes_are;
-ghost use Rattle.pool_layout.specs.inside.Bytes as inside_bytes_are;
 ghost use Rattle.pool_layout.specs.Places.{layout_words, pool_of, IsPlace};
-ghost use Rattle.pool_layout.specs.Image as image_is;
 ghost use Rattle.pool_layout.specs.Moved as moved_are;
 ghost use Rattle.pool_layout.specs.Opened.{IsOpened};
 ghost use Rattle.pool_layout.specs.Fault.{version_of, needed, Accepts, IsFirstFault};
 
-use crate::bytes::word_in;
 use crate::head::{early_fault, rules_for};
 use crate::limits::Sizes;
 use crate::places::{Layout, Place, Version};
+use crate::raw::RawImage;
 use crate::wanted::{ImageFault, Wanted};
 use nvm_base::Words;
 use std::alloc::{AllocError, Global};
@@ -20,30 +18,30 @@ use std::alloc::{AllocError, Global};
 /// The words of a saved pool, or why these bytes are no image of the wanted pool: the first fault
 /// that applies, with its two values. A pool of the first version is moved to the second. Want of
 /// memory is answered only if no fault applies.
-pub fn read_image(alloc: Global, bytes: &[u8], wanted: &Wanted) -> Result<Words, ImageFault>
-    ensures refused { IfErr result (λ fault. IsFirstFault wanted.now bytes.now fault) }
-    ensures accepted { OnOk result (Accepts wanted.now bytes.now) }
-    ensures second { IfOk result (λ all. version_of bytes.now ≡ Version.Second
-        → bytes_are.bytes_of all ≡ bytes.now) }
-    ensures first { IfOk result (λ all. version_of bytes.now ≡ Version.First
-        → moved_are.AreMoved wanted.now.sizes (bytes_are.word_in bytes.now) all) }
+pub fn read_image(alloc: Global, bytes: RawImage, wanted: &Wanted) -> Result<Words, ImageFault>
+    ensures refused { IfErr result (λ fault. IsFirstFault wanted.now bytes fault) }
+    ensures accepted { OnOk result (Accepts wanted.now bytes) }
+    ensures second { IfOk result (λ all. version_of bytes ≡ Version.Second
+        → bytes_are.bytes_of all ≡ bytes) }
+    ensures first { IfOk result (λ all. version_of bytes ≡ Version.First
+        → moved_are.AreMoved wanted.now.sizes (bytes_are.word_in bytes) all) }
     ensures opened { IfOk result (λ all. IsOpened wanted.now all) }
 {
-    if let Some(fault) = early_fault(bytes, wanted) {
+    if let Some(fault) = early_fault(&bytes, wanted) {
         return Err(fault);
     }
-    let rules = rules_for(bytes, wanted);
-    if let Some(word) = rules.first_break(bytes) {
-        return Err(ImageFault::Content(word, word_in(bytes, word)));
+    let rules = rules_for(&bytes, wanted);
+    if let Some(word) = rules.first_break(&bytes) {
+        return Err(ImageFault::Content(word, bytes.word(word)));
     }
     match rules.layout.version {
-        Version::First => Ok(read_first(alloc, bytes, wanted)?),
-        Version::Second => Ok(read_second(alloc, bytes, wanted)?),
+        Version::First => Ok(read_first(alloc, &bytes, wanted)?),
+        Version::Second => Ok(read_second(bytes, wanted)),
     }
 }
 
 /// The answer for an image of the first version to which no fault applies.
-fn read_first(alloc: Global, bytes: &[u8], wanted: &Wanted) -> Result<Words, AllocError>
+fn read_first(alloc: Global, bytes: &RawImage, wanted: &Wanted) -> Result<Words, AllocError>
     requires accepted { Accepts wanted.now bytes.now }
     requires whole { length bytes.now ≡ needed wanted.now bytes.now }
     requires version { version_of bytes.now ≡ Version.First }
@@ -55,33 +53,18 @@ fn read_first(alloc: Global, bytes: &[u8], wanted: &Wanted) -> Result<Words, All
 }
 
 /// The answer for an image of the second version to which no fault applies.
-fn read_second(alloc: Global, bytes: &[u8], wanted: &Wanted) -> Result<Words, AllocError>
-    requires accepted { Accepts wanted.now bytes.now }
-    requires whole { length bytes.now ≡ needed wanted.now bytes.now }
-    requires version { version_of bytes.now ≡ Version.Second }
-    ensures bytes { IfOk result (λ all. bytes_are.bytes_of all ≡ bytes.now) }
-    ensures opened { IfOk result (λ all. IsOpened wanted.now all) }
+fn read_second(bytes: RawImage, wanted: &Wanted) -> Words
+    requires accepted { Accepts wanted.now bytes }
+    requires whole { length bytes ≡ needed wanted.now bytes }
+    requires version { version_of bytes ≡ Version.Second }
+    ensures bytes { bytes_are.bytes_of result ≡ bytes }
+    ensures opened { IsOpened wanted.now result }
 {
-    all_words(alloc, bytes)
-}
-
-/// The words of these bytes.
-fn all_words(alloc: Global, bytes: &[u8]) -> Result<Words, AllocError>
-    requires { inside_bytes_are.AreWholeWords bytes.now }
-    ensures bytes { IfOk result (λ all. bytes_are.bytes_of all ≡ bytes.now) }
-    ensures whole { IfOk result (λ all. 8 * length all ≡ length bytes.now) }
-    ensures words { IfOk result (λ all. image_is.image_words all ≡ bytes_are.word_in bytes.now) }
-{
-    let mut all = Words::new(alloc);
-    let count = bytes.len() as u64 / 8;
-    for k in 0..count {
-        all.push(word_in(bytes, k))?;
-    }
-    Ok(all)
+    bytes.into_words()
 }
 
 /// The words of a pool of the first version, moved to the second.
-fn moved_words(alloc: Global, bytes: &[u8], sizes: &Sizes) -> Result<Words, AllocError>
+fn moved_words(alloc: Global, bytes: &RawImage, sizes: &Sizes) -> Result<Words, AllocError>
     requires { 8 * layout_words (moved_are.first_layout sizes.now) ≤ length bytes.now }
     ensures { IfOk result (λ all. moved_are.AreMoved sizes.now (bytes_are.word_in bytes.now) all) }
 {
@@ -95,7 +78,7 @@ fn moved_words(alloc: Global, bytes: &[u8], sizes: &Sizes) -> Result<Words, Allo
 
 /// The word at a place of the moved pool.
 #[tactic(auto, unfolding(crate::specs::Moved::moved))]
-fn moved_word(bytes: &[u8], sizes: &Sizes, place: Place) -> i64
+fn moved_word(bytes: &RawImage, sizes: &Sizes, place: Place) -> i64
     requires whole { 8 * layout_words (moved_are.first_layout sizes.now) ≤ length bytes.now }
     requires inside { IsPlace (pool_of sizes.now) place }
     ensures { result ≡ moved_are.moved sizes.now (bytes_are.word_in bytes.now) place }
@@ -107,7 +90,7 @@ fn moved_word(bytes: &[u8], sizes: &Sizes, place: Place) -> i64
     match place {
         Place::Super(1) => 2,
         Place::Super(_) | Place::Last | Place::Done | Place::Mark | Place::Heap(_) => {
-            word_in(bytes, from.word(place))
+            bytes.word(from.word(place))
         }
         _ => 0,
     }

@@ -1,5 +1,5 @@
-//! The rules of content of an image, and the least word that breaks one. The image is checked in
-//! its bytes, and no memory is allocated.
+//! The rules of content of an image, and the least word that breaks one. Of the slots only the
+//! headers are looked at. No memory is allocated.
 
 ghost use Rattle.std.specs.Prelude.{ℕ, ◌≡◌, ◌<◌, ◌≤◌, ◌*◌, ◌+◌, IfSome, IfNone, length, nat_le};
 ghost use Rattle.pool_layout.specs.Bytes as bytes_are;
@@ -8,10 +8,10 @@ ghost use Rattle.pool_layout.specs.Content as content;
 ghost use Rattle.pool_layout.specs.inside.Content as inside_content;
 ghost use Rattle.pool_layout.specs.Image as image;
 
-use crate::bytes::word_in;
 use crate::limits::{NUMBER_LIMIT, Sizes};
 use crate::measures::{heap_words, slot_word};
 use crate::places::{Layout, Place, Version};
+use crate::raw::RawImage;
 
 /// What the rules of content depend on: the layout, the number of transactions of the program, and
 /// the number of its structs.
@@ -24,14 +24,32 @@ pub struct Rules {
 
 impl Rules {
     /// The least word of the image that breaks a rule, or `None` if no word does.
-    pub fn first_break(&self, bytes: &[u8]) -> Option<u64>
+    pub fn first_break(&self, bytes: &RawImage) -> Option<u64>
         requires { 8 * layout_words self.now.layout ≤ length bytes.now }
         ensures broken { IfSome result
             (λ w. content.IsFirstBreak self.now (bytes_are.word_in bytes.now) w) }
         ensures kept { IfNone result (content.KeepsRules self.now (bytes_are.word_in bytes.now)) }
     {
+        match self.break_before_slots(bytes) {
+            Some(word) => Some(word),
+            None => self.broken_header(bytes),
+        }
+    }
+
+    /// The least word before the slots that breaks a rule.
+    #[tactic(auto, using(crate::proofs::Kept::slot_inside))]
+    fn break_before_slots(&self, bytes: &RawImage) -> Option<u64>
+        requires { 8 * layout_words self.now.layout ≤ length bytes.now }
+        ensures broken { IfSome result
+            (λ w. content.IsFirstBreak self.now (bytes_are.word_in bytes.now) w) }
+        ensures kept { IfNone result
+            (inside_content.KeepsToSlot self.now (bytes_are.word_in bytes.now) 1) }
+    {
         let leading = self.leading(bytes);
-        for word in 0..self.layout.words() {
+        let slots = self
+            .layout
+            .word(Place::Heap(slot_word(&self.layout.sizes, 1)));
+        for word in 0..slots {
             if self.breaks(bytes, leading, self.layout.place(word)) {
                 return Some(word);
             }
@@ -39,8 +57,26 @@ impl Rules {
         None
     }
 
+    /// The word of the first header that breaks a rule, if no word before the slots does.
+    #[tactic(auto, using(crate::proofs::Kept::slot_inside))]
+    fn broken_header(&self, bytes: &RawImage) -> Option<u64>
+        requires whole { 8 * layout_words self.now.layout ≤ length bytes.now }
+        requires before { inside_content.KeepsToSlot self.now (bytes_are.word_in bytes.now) 1 }
+        ensures broken { IfSome result
+            (λ w. content.IsFirstBreak self.now (bytes_are.word_in bytes.now) w) }
+        ensures kept { IfNone result (content.KeepsRules self.now (bytes_are.word_in bytes.now)) }
+    {
+        for slot in 1..self.layout.sizes.slots() + 1 {
+            let header = slot_word(&self.layout.sizes, slot);
+            if self.breaks_heap(bytes, header) {
+                return Some(self.layout.word(Place::Heap(header)));
+            }
+        }
+        None
+    }
+
     /// How many records, from the first on, are valid.
-    fn leading(&self, bytes: &[u8]) -> u64
+    fn leading(&self, bytes: &RawImage) -> u64
         requires { 8 * layout_words self.now.layout ≤ length bytes.now }
         ensures { inside_content.IsLeading self.now.layout (bytes_are.word_in bytes.now) result }
     {
@@ -54,7 +90,7 @@ impl Rules {
 
     /// Whether the word at this place breaks a rule.
     #[tactic(auto, unfolding(crate::specs::Content::breaks_rule))]
-    fn breaks(&self, bytes: &[u8], leading: u64, place: Place) -> bool
+    fn breaks(&self, bytes: &RawImage, leading: u64, place: Place) -> bool
         requires whole { 8 * layout_words self.now.layout ≤ length bytes.now }
         requires inside { IsPlace self.now.layout place }
         requires led { inside_content.IsLeading self.now.layout
@@ -76,7 +112,7 @@ impl Rules {
     }
 
     #[tactic(auto, unfolding(crate::specs::Content::breaks_rule))]
-    fn breaks_argument(&self, bytes: &[u8], k: u64) -> bool
+    fn breaks_argument(&self, bytes: &RawImage, k: u64) -> bool
         requires whole { 8 * layout_words self.now.layout ≤ length bytes.now }
         requires inside { IsPlace self.now.layout (Place.Argument k) }
         ensures { result ≡ content.breaks_rule self.now (bytes_are.word_in bytes.now)
@@ -88,7 +124,7 @@ impl Rules {
     }
 
     #[tactic(auto, unfolding(crate::specs::Content::breaks_rule))]
-    fn breaks_word(&self, bytes: &[u8], i: u64) -> bool
+    fn breaks_word(&self, bytes: &RawImage, i: u64) -> bool
         requires whole { 8 * layout_words self.now.layout ≤ length bytes.now }
         requires inside { i < self.now.layout.sizes.records }
         ensures { result ≡ content.breaks_rule self.now (bytes_are.word_in bytes.now)
@@ -100,7 +136,7 @@ impl Rules {
     }
 
     #[tactic(auto, unfolding(crate::specs::Content::breaks_rule))]
-    fn breaks_old(&self, bytes: &[u8], i: u64) -> bool
+    fn breaks_old(&self, bytes: &RawImage, i: u64) -> bool
         requires whole { 8 * layout_words self.now.layout ≤ length bytes.now }
         requires inside { i < self.now.layout.sizes.records }
         ensures { result ≡ content.breaks_rule self.now (bytes_are.word_in bytes.now)
@@ -113,7 +149,7 @@ impl Rules {
     }
 
     #[tactic(auto, unfolding(crate::specs::Content::breaks_rule))]
-    fn breaks_stamp(&self, bytes: &[u8], leading: u64, i: u64) -> bool
+    fn breaks_stamp(&self, bytes: &RawImage, leading: u64, i: u64) -> bool
         requires whole { 8 * layout_words self.now.layout ≤ length bytes.now }
         requires inside { i < self.now.layout.sizes.records }
         requires led { inside_content.IsLeading self.now.layout
@@ -128,7 +164,7 @@ impl Rules {
     }
 
     #[tactic(auto, unfolding(crate::specs::Content::breaks_rule))]
-    fn breaks_heap(&self, bytes: &[u8], w: u64) -> bool
+    fn breaks_heap(&self, bytes: &RawImage, w: u64) -> bool
         requires whole { 8 * layout_words self.now.layout ≤ length bytes.now }
         requires inside { IsPlace self.now.layout (Place.Heap w) }
         ensures { result ≡ content.breaks_rule self.now (bytes_are.word_in bytes.now)
@@ -140,7 +176,7 @@ impl Rules {
 
     /// Whether the seal is done plus 1.
     #[tactic(auto, using(std::proofs::lemmas::Int::wraps))]
-    fn is_sealed(&self, bytes: &[u8]) -> bool
+    fn is_sealed(&self, bytes: &RawImage) -> bool
         requires { 8 * layout_words self.now.layout ≤ length bytes.now }
         ensures { result
             ≡ image.is_sealed_in self.now.layout.version (bytes_are.word_in bytes.now) }
@@ -150,7 +186,7 @@ impl Rules {
 
     /// Whether record `i` is valid.
     #[tactic(auto, using(std::proofs::lemmas::Int::wraps))]
-    fn is_valid(&self, bytes: &[u8], i: u64) -> bool
+    fn is_valid(&self, bytes: &RawImage, i: u64) -> bool
         requires whole { 8 * layout_words self.now.layout ≤ length bytes.now }
         requires inside { i < self.now.layout.sizes.records }
         ensures { result ≡ content.is_valid self.now.layout (bytes_are.word_in bytes.now) i }
@@ -162,12 +198,12 @@ impl Rules {
     }
 
     /// The word at this place.
-    fn word(&self, bytes: &[u8], place: Place) -> i64
+    fn word(&self, bytes: &RawImage, place: Place) -> i64
         requires whole { 8 * layout_words self.now.layout ≤ length bytes.now }
         requires inside { IsPlace self.now.layout place }
         ensures { result ≡ bytes_are.word_in bytes.now (at self.now.layout place) }
     {
-        word_in(bytes, self.layout.word(place))
+        bytes.word(self.layout.word(place))
     }
 }
 

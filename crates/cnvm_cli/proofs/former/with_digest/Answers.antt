@@ -1,6 +1,6 @@
 use Rattle.std.proofs.Common.{rules, ◌≡◌, ◌++◌, List, ℕ, length, take, ap, ◌∙◌}
 use Rattle.pool_layout.specs.Bytes.{bytes_of}
-use Rattle.cnvm_cli.proofs.Heads.{length_mended}
+use Rattle.cnvm_cli.proofs.texts.Heads.{length_mended}
 use Rattle.cnvm_cli.proofs.former.with_digest.Goals as goal
 
 pub returns-clause-length : goal.returns-clause-length

@@ -3,7 +3,7 @@ use Rattle.cnvm_compile.specs.Compilation.{IsCompiled}
 use Rattle.cnvm_cli.specs.declared.refused.Refused.TheVariants as refused
 use Rattle.cnvm_cli.specs.Listed.{listing_sizes}
 use Rattle.session_run.proofs.Running.{keeps_same}
-use Rattle.cnvm_cli.proofs.Sources.{known_bytes}
+use Rattle.cnvm_cli.proofs.texts.Sources.{known_bytes}
 use Rattle.cnvm_cli.proofs.Statuses.{written_as}
 use Rattle.cnvm_cli.proofs.instructions.code.Goals as goal
 

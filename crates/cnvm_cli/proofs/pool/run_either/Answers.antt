@@ -26,7 +26,7 @@ returns-in-Ok-Own-clause-ends g c = λ found.
     (λ (old : Compiled). RunsMoved old.program program c.args.job.now.script c.run_words.result
     before after)
     program (g.I.Source.left c.args.image.now) (content c.args.file) c.run_words.result before after
-    c.as_slice.result.now c.in-Ok-Own.words c.as_slice.ensures read.0 read.1
+    c.in-Ok-Own.words c.in-Ok-Own.words refl read.0 read.1
     (c.run_words.ensures.ends found)
 
 pub returns-in-Ok-Former-clause-ends : goal.returns-in-Ok-Former-clause-ends

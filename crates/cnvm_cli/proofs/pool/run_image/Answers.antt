@@ -1,3 +1,4 @@
+use Rattle.std.proofs.Common.{refl}
 use Rattle.cnvm_cli.specs.PoolSide.{PoolSide, held_by, pool_side}
 use Rattle.cnvm_cli.specs.inside.PoolEnds.{RunsOn}
 use Rattle.cnvm_cli.proofs.Taking.{words_file}
@@ -12,5 +13,5 @@ returns-clause-ends g c = λ found.
     (held_by g.N.Lines.memory content c.run_words.new.dev) c.run_words.new.steps in
     words_file (RunsOn c.args.program.now c.args.script.now c.run_words.result before after)
     c.args.program.now (g.I.Source.left c.args.image.now) (content c.args.file) c.run_words.result
-    before after c.as_slice.result.now c.in-Ok.words c.as_slice.ensures c.in-Ok.ensures.told
+    before after c.in-Ok.words c.in-Ok.words refl c.in-Ok.ensures.told
     (c.run_words.ensures.ends found)

@@ -1,6 +1,6 @@
 use Rattle.std.proofs.Common.{◌∙◌}
 use Rattle.cache_model.specs.Cache.{view}
-use Rattle.cnvm_cli.proofs.PoolMeaning.{made_words}
+use Rattle.cnvm_cli.proofs.meant.PoolMeaning.{made_words}
 use Rattle.cnvm_cli.proofs.pool.run_missing.Goals as goal
 
 pub run_new-requires-clause-holds : goal.run_new-requires-clause-holds

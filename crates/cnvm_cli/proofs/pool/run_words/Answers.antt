@@ -1,4 +1,4 @@
-use Rattle.std.proofs.Common.{◌≡◌, List, ℤ, inr, refl, sym, ap, ◌∙◌, subst}
+use Rattle.std.proofs.Common.{◌≡◌, List, ℤ, inr, refl, sym, ap, ◌∙◌}
 use Rattle.pool_layout.specs.Sizes.{pool_lines}
 use Rattle.cnvm_session.specs.Pool.{sizes_of}
 use Rattle.cnvm_cli.specs.PoolSide.{PoolSide, held_by, pool_side}
@@ -6,8 +6,8 @@ use Rattle.cnvm_cli.specs.inside.PoolEnds.{RunsOn}
 use Rattle.cnvm_cli.proofs.Taking.{runs_held, runs_other}
 use Rattle.cnvm_cli.proofs.pool.run_words.Goals as goal
 
-pub returns-then-are_same-clause-ends : goal.returns-then-are_same-clause-ends
-returns-then-are_same-clause-ends g c = λ found.
+pub returns-then-same-clause-ends : goal.returns-then-same-clause-ends
+returns-then-same-clause-ends g c = λ found.
     let held : List ℤ = c.in-Ok.held in
     let content = g.F.LineFile.content in
     let before : PoolSide = pool_side found (g.K.Sink.written c.args.out.now)
@@ -17,10 +17,10 @@ returns-then-are_same-clause-ends g c = λ found.
     let run = RunsOn c.args.program.now c.args.script.now c.run_held.result before after in
     let n = pool_lines (sizes_of c.args.program.now) in
     inr (runs_held run n 1 (content c.args.file) c.run_held.result before after
-    c.pool_lines.result held c.args.words.now
+    c.pool_lines.result held c.args.words
     (c.pool_lines.ensures ∙ ap pool_lines c.sizes.ensures) c.in-Ok.ensures.newest
-    (sym c.as_slice-held.ensures ∙ c.are_same.ensures.same c.if-are_same.true)
-    (subst run c.as_slice-held.ensures c.run_held.ensures.ran))
+    (sym c.as_slice.ensures ∙ c.are_same-same.ensures.same c.if-same.true ∙ c.as_slice-2.ensures)
+    c.run_held.ensures.ran)
 
 pub returns-clause-ends : goal.returns-clause-ends
 returns-clause-ends g c = λ found.
@@ -33,9 +33,10 @@ returns-clause-ends g c = λ found.
     let run = RunsOn c.args.program.now c.args.script.now c.refuse.result before after in
     let n = pool_lines (sizes_of c.args.program.now) in
     inr (runs_other run n 1 (content c.args.file) c.refuse.result before after
-    c.pool_lines.result held c.args.words.now
+    c.pool_lines.result held c.args.words
     (c.pool_lines.ensures ∙ ap pool_lines c.sizes.ensures) c.in-Ok.ensures.newest
     c.in-Ok.ensures.length
-    (λ (e : held ≡ c.args.words.now). c.are_same.ensures.other c.if-are_same.false
-    (c.as_slice-held.ensures ∙ e)) c.other_words.result c.as_slice-held.result.now
-    c.other_words.ensures c.as_slice-held.ensures (c.refuse.ensures.refused, refl, refl))
+    (λ (e : held ≡ c.args.words). c.are_same-same.ensures.other c.if-same.false
+    (c.as_slice.ensures ∙ e ∙ sym c.as_slice-2.ensures)) c.other_words.result
+    c.as_slice-3.result.now
+    c.other_words.ensures c.as_slice-3.ensures (c.refuse.ensures.refused, refl, refl))

@@ -1,7 +1,7 @@
 use Rattle.std.proofs.Common.{Some, sym, subst}
 use Rattle.cnvm_cli.specs.declared.refused.Refused.{Refused}
 use Rattle.cnvm_cli.specs.Verdict.{ProgramRefuses}
-use Rattle.cnvm_cli.proofs.Verdicts.{told_refuses}
+use Rattle.cnvm_cli.proofs.texts.Verdicts.{told_refuses}
 use Rattle.cnvm_cli.proofs.reading.program_of.Goals as goal
 
 pub returns-in-Err-clause-is : goal.returns-in-Err-clause-is

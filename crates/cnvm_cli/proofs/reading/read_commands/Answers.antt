@@ -1,7 +1,7 @@
 use Rattle.std.proofs.Common.{◌∙◌}
 use Rattle.cnvm_script.specs.Commands.{script_meaning}
-use Rattle.cnvm_cli.proofs.Sources.{of_long, script_read}
-use Rattle.cnvm_cli.proofs.Verdicts.{text_long}
+use Rattle.cnvm_cli.proofs.texts.Sources.{of_long, script_read}
+use Rattle.cnvm_cli.proofs.texts.Verdicts.{text_long}
 use Rattle.cnvm_cli.proofs.reading.read_commands.Goals as goal
 
 pub returns-in-Err-Long-clause-told : goal.returns-in-Err-Long-clause-told

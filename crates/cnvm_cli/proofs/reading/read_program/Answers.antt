@@ -1,6 +1,6 @@
 use Rattle.std.proofs.Common.{◌∙◌}
-use Rattle.cnvm_cli.proofs.Sources.{of_long, program_read}
-use Rattle.cnvm_cli.proofs.Verdicts.{text_long, long_refused}
+use Rattle.cnvm_cli.proofs.texts.Sources.{of_long, program_read}
+use Rattle.cnvm_cli.proofs.texts.Verdicts.{text_long, long_refused}
 use Rattle.cnvm_cli.proofs.reading.read_program.Goals as goal
 
 pub returns-in-Err-Long-clause-told : goal.returns-in-Err-Long-clause-told

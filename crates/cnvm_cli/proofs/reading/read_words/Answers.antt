@@ -1,15 +1,18 @@
-use Rattle.std.proofs.Common.{rules, ◌≡◌, ◌≤◌, ◌*◌, ◌+◌, IfSome, length}
+use Rattle.std.proofs.Common.{◌≡◌, ◌+◌, ◌*◌, ℕ, ap, ◌∙◌, subst}
 use Rattle.pool_layout.specs.Sizes.{pool_lines}
-use Rattle.cnvm_cli.specs.Opened.{read_part}
-use Rattle.cnvm_cli.proofs.Sources.{image_read}
-use Rattle.cnvm_cli.proofs.reading.read_words.Goals as goal
+use Rattle.pool_layout.specs.Taken.{ReadOnto}
 use Rattle.cnvm_session.specs.Pool.{sizes_of}
+use Rattle.cnvm_cli.proofs.texts.Sources.{image_taken}
+use Rattle.cnvm_cli.proofs.reading.read_words.Goals as goal
 
-pub returns-clause-told : goal.returns-clause-told
-returns-clause-told g c =
-    let bytes = c.as_slice.result.now in
+pub returns-in-Ok-clause-told : goal.returns-in-Ok-clause-told
+returns-in-Ok-clause-told g c =
     let p = c.args.program.now in
-    let first : IfSome (g.I.Source.left c.args.source.now) (λ all. bytes ≡ read_part p all) =
-    search rules in
-    let within : length bytes ≤ 64 * pool_lines (sizes_of p) + 1 = search rules in
-    image_read p _ c.words_of.result bytes first within c.words_of.ensures.are
+    let left = g.I.Source.left c.args.source.now in
+    let lines : c.pool_lines.result ≡ pool_lines (sizes_of p) =
+    c.pool_lines.ensures ∙ ap pool_lines c.sizes.ensures in
+    image_taken p left c.words_of.result c.new-image.result c.read_onto.new.image
+    c.new-image.ensures
+    (subst (λ (n : ℕ). ReadOnto left n c.new-image.result c.read_onto.new.image)
+    (ap (λ (n : ℕ). 64 * n + 1) lines) c.in-Ok.ensures.read)
+    c.words_of.ensures.are

@@ -1,5 +1,5 @@
 use Rattle.cnvm_cli.specs.RefusalText.{word_text}
-use Rattle.cnvm_cli.proofs.Digits.{appended_both}
+use Rattle.cnvm_cli.proofs.texts.Digits.{appended_both}
 use Rattle.cnvm_cli.proofs.refused.push_word.Goals as goal
 
 pub returns : goal.returns

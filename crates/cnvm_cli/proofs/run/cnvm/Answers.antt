@@ -1,7 +1,7 @@
 use Rattle.std.proofs.Common.{refl}
 use Rattle.cnvm_cli.proofs.Completing.{plan_kept_as}
-use Rattle.cnvm_cli.proofs.Meaning.{memory_meant, plan_meant_as}
-use Rattle.cnvm_cli.proofs.PoolMeaning.{plan_on_file_as, memory_on_file}
+use Rattle.cnvm_cli.proofs.meant.Meaning.{memory_meant, plan_meant_as}
+use Rattle.cnvm_cli.proofs.meant.PoolMeaning.{plan_on_file_as, memory_on_file}
 use Rattle.session_run.proofs.Running.{keeps_same}
 use Rattle.cnvm_cli.proofs.run.cnvm.Goals as goal
 

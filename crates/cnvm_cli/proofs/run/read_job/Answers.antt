@@ -1,7 +1,7 @@
 use Rattle.std.proofs.Common.{inl, inr}
 use Rattle.cnvm_compile.specs.Compilation.{IsCompiled}
 use Rattle.cnvm_cli.specs.Verdict.{IsAccepted}
-use Rattle.cnvm_cli.proofs.Sources.{of_map}
+use Rattle.cnvm_cli.proofs.texts.Sources.{of_map}
 use Rattle.cnvm_cli.proofs.run.read_job.Goals as goal
 
 pub returns-in-Err-clause-told : goal.returns-in-Err-clause-told

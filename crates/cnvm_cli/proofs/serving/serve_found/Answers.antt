@@ -2,7 +2,7 @@ use Rattle.std.proofs.Common.{inr}
 use Rattle.cnvm_compile.specs.declared.compiling.Compiled.{Compiled}
 use Rattle.cnvm_cli.specs.PoolSide.{PoolSide, held_by, pool_side}
 use Rattle.cnvm_cli.specs.inside.ServeEnds.{ServesOn, ServesMoved}
-use Rattle.cnvm_cli.proofs.PoolMeaning.{tells_file}
+use Rattle.cnvm_cli.proofs.meant.PoolMeaning.{tells_file}
 use Rattle.cnvm_cli.proofs.Taking.{either_if, file_if}
 use Rattle.cnvm_cli.proofs.serving.serve_found.Goals as goal
 

@@ -1,7 +1,7 @@
 use Rattle.std.proofs.Common.{inr, Ok, ◌∙◌}
 use Rattle.cache_model.specs.Cache.{view}
 use Rattle.file_pmem.specs.Mirror.{file_device}
-use Rattle.cnvm_cli.proofs.PoolMeaning.{made_words}
+use Rattle.cnvm_cli.proofs.meant.PoolMeaning.{made_words}
 use Rattle.cnvm_cli.proofs.Standing.{made_stands}
 use Rattle.cnvm_cli.proofs.serving.serve_missing.Goals as goal
 

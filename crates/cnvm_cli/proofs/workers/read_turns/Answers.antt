@@ -1,7 +1,7 @@
 use Rattle.std.proofs.Common.{◌∙◌}
 use Rattle.workers_script.specs.WorkersGrammar.{workers_script_meaning}
-use Rattle.cnvm_cli.proofs.Sources.{of_long, script_read}
-use Rattle.cnvm_cli.proofs.Verdicts.{text_long}
+use Rattle.cnvm_cli.proofs.texts.Sources.{of_long, script_read}
+use Rattle.cnvm_cli.proofs.texts.Verdicts.{text_long}
 use Rattle.cnvm_cli.proofs.workers.read_turns.Goals as goal
 
 pub returns-in-Err-Long-clause-told : goal.returns-in-Err-Long-clause-told

@@ -2,7 +2,7 @@ use Rattle.std.proofs.Common.{List, inl, inr, refl, subst}
 use Rattle.cnvm_compile.specs.Compilation.{IsCompiled}
 use Rattle.workers_script.specs.declared.command.WorkersCommand.{WorkersCommand}
 use Rattle.cnvm_cli.specs.inside.WorkersEnds.{WorkersRanAs}
-use Rattle.cnvm_cli.proofs.Sources.{known_bytes}
+use Rattle.cnvm_cli.proofs.texts.Sources.{known_bytes}
 use Rattle.cnvm_cli.proofs.workers.run_script.Goals as goal
 
 pub look_up-requires : goal.look_up-requires

@@ -1,7 +1,7 @@
 use Rattle.std.proofs.Common.{sym, subst}
 use Rattle.session_run.specs.declared.status.Status.{Status}
 use Rattle.cnvm_cli.specs.inside.WorkersEnds.{WorkersRanAs}
-use Rattle.cnvm_cli.proofs.WorkersMeaning.{ran_by}
+use Rattle.cnvm_cli.proofs.meant.WorkersMeaning.{ran_by}
 use Rattle.cnvm_cli.proofs.workers.run_turns.Goals as goal
 
 pub returns-clause-ran : goal.returns-clause-ran

@@ -1,5 +1,5 @@
 use Rattle.std.proofs.Common.{inr}
-use Rattle.cnvm_cli.proofs.PoolMeaning.{tells_file}
+use Rattle.cnvm_cli.proofs.meant.PoolMeaning.{tells_file}
 use Rattle.cnvm_cli.proofs.workers_pool.run_found.Goals as goal
 
 pub returns-in-Held-clause-ends : goal.returns-in-Held-clause-ends

@@ -2,7 +2,7 @@ use Rattle.std.proofs.Common.{◌∙◌}
 use Rattle.cache_model.specs.Cache.{view}
 use Rattle.cnvm_cli.specs.PoolSide.{held_by, pool_side}
 use Rattle.cnvm_cli.proofs.CrewRunning.{new_by}
-use Rattle.cnvm_cli.proofs.PoolMeaning.{made_words}
+use Rattle.cnvm_cli.proofs.meant.PoolMeaning.{made_words}
 use Rattle.cnvm_cli.proofs.workers_pool.run_missing.Goals as goal
 
 pub run_new-requires-clause-holds : goal.run_new-requires-clause-holds

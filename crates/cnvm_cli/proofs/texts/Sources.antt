@@ -1,9 +1,10 @@
 -- The bytes of a source, told or not.
 use Rattle.std.proofs.Common.{◌≡◌, ℕ, zero, suc, ◌+◌, ◌*◌, ◌<◌, ◌≤◌, ℤ, List, [], ◌∷◌, length, take}
 use Rattle.std.proofs.Common.{Result, Ok, Err, Option, Some, None, IfSome, refl, sym, ap, subst}
-use Rattle.std.proofs.Common.{arith}
+use Rattle.std.proofs.Common.{arith, ◌++◌, ◌∙◌}
 use Rattle.pool_layout.specs.Sizes.{pool_lines}
 use Rattle.pool_layout.specs.Fault.{IsFirstFault}
+use Rattle.pool_layout.specs.Taken.{ReadOnto}
 use Rattle.cnvm_compile.specs.declared.asked.Asked.{Asked}
 use Rattle.cnvm_compile.specs.declared.compiling.Compiled.{Compiled}
 use Rattle.cnvm_compile.specs.Compilation.{IsCompiled}
@@ -122,3 +123,13 @@ image_read program w (Err (refused.Program line complaint)) bytes first within i
 image_read program w (Err refused.LongScript) bytes first within is = absurd is
 image_read program w (Err (refused.Script number)) bytes first within is = absurd is
 image_read program w (Err refused.Busy) bytes first within is = absurd is
+
+-- an image whose bytes were taken from a source, from none on
+pub image_taken : (program : Program) (w : Option (List ℕ)) (r : Result (List ℤ) Refused)
+    (none bytes : List ℕ) → none ≡ []
+    → ReadOnto w (64 * pool_lines (sizes_of program) + 1) none bytes
+    → ImageIs program r bytes → ImageReadAs program r w
+image_taken program w r none bytes empty read is =
+    let all : bytes ≡ read.bytes =
+    read.grown ∙ ap (λ (l : List ℕ). l ++ read.bytes) empty in
+    image_read program w r read.bytes read.first read.within (subst (ImageIs program r) all is)

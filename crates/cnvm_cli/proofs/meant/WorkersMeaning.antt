@@ -19,7 +19,7 @@ use Rattle.session_run.specs.declared.status.Status.{Status}
 use Rattle.cnvm_cli.specs.Verdict.{SpellsIn}
 use Rattle.cnvm_cli.specs.inside.WorkersEnds.{WorkersRanAs, WorkersEnds}
 use Rattle.cnvm_cli.specs.WorkersMeant.{make_fault, run_status, WorkersMeantAs, WorkersMeant}
-use Rattle.cnvm_cli.proofs.Sources.{known_bytes}
+use Rattle.cnvm_cli.proofs.texts.Sources.{known_bytes}
 use Rattle.cnvm_cli.proofs.Statuses.{status_map, met_map}
 
 -- how a run ends, by its status

@@ -17,10 +17,10 @@ use Rattle.session_law.specs.Holds.{Holds}
 use Rattle.session_law.specs.Words.{AreWords}
 use Rattle.session_law.specs.Ran.{Moment, fresh_moment}
 use Rattle.session_law.specs.Law.{IsWordCommand, super_words}
-use Rattle.session_law.proofs.Chains.{steps_on, open_step}
-use Rattle.session_law.proofs.Commands.{each_command}
-use Rattle.session_law.proofs.Creating.{created_rests}
-use Rattle.session_law.proofs.Opening.{opened_answers}
+use Rattle.session_law.proofs.chains.Chains.{steps_on, open_step}
+use Rattle.session_law.proofs.answers.Commands.{each_command}
+use Rattle.session_law.proofs.answers.Creating.{created_rests}
+use Rattle.session_law.proofs.answers.Opening.{opened_answers}
 use Rattle.session_law.proofs.Scripts.{script_words}
 use Rattle.cnvm_words.specs.declared.plan.Plan.{Plan}
 use Rattle.cnvm_words.specs.declared.plan.Plan.TheVariants as plan
@@ -47,11 +47,11 @@ use Rattle.cnvm_cli.specs.Meant.{CallMeant}
 use Rattle.cnvm_cli.specs.inside.Ends.{PoolEnds, JobEnds, RunEnds, PlanEnds}
 use Rattle.session_run.specs.Commands as cli
 use Rattle.cnvm_cli.proofs.Moments.{next_to, opened_to}
-use Rattle.cnvm_cli.proofs.ServeMeaning.{memory_served}
-use Rattle.cnvm_cli.proofs.Sources.{known_bytes}
+use Rattle.cnvm_cli.proofs.meant.ServeMeaning.{memory_served}
+use Rattle.cnvm_cli.proofs.texts.Sources.{known_bytes}
 use Rattle.cnvm_cli.proofs.Statuses.{status_map, strict_memory}
-use Rattle.cnvm_cli.proofs.StormMeaning.{storm_meant}
-use Rattle.cnvm_cli.proofs.WorkersMeaning.{workers_meant}
+use Rattle.cnvm_cli.proofs.meant.StormMeaning.{storm_meant}
+use Rattle.cnvm_cli.proofs.meant.WorkersMeaning.{workers_meant}
 
 -- nothing is written
 none_written : (w w' : Option (List ℕ)) → w' ≡ w → Appends w w' []

@@ -18,10 +18,10 @@ use Rattle.session_law.specs.Holds.{Holds}
 use Rattle.session_law.specs.Law.{IsWordCommand, super_words}
 use Rattle.session_law.specs.Ran.{Moment, fresh_moment}
 use Rattle.session_law.specs.Words.{AreWords}
-use Rattle.session_law.proofs.Chains.{steps_on, open_step}
-use Rattle.session_law.proofs.Commands.{each_command}
-use Rattle.session_law.proofs.Creating.{created_rests}
-use Rattle.session_law.proofs.Opening.{opened_answers}
+use Rattle.session_law.proofs.chains.Chains.{steps_on, open_step}
+use Rattle.session_law.proofs.answers.Commands.{each_command}
+use Rattle.session_law.proofs.answers.Creating.{created_rests}
+use Rattle.session_law.proofs.answers.Opening.{opened_answers}
 use Rattle.session_law.proofs.Scripts.{line_words}
 use Rattle.session_run.specs.declared.status.Status.{Status}
 use Rattle.session_run.specs.Made.{Created}
@@ -43,8 +43,8 @@ use Rattle.cnvm_cli.specs.World.{Sources, Outside}
 use Rattle.cnvm_cli.specs.inside.ServeEnds.{MemoryEnds, MadeServed, ServesOn, ServesNew, ServeEnds}
 use Rattle.cnvm_cli.specs.inside.ServeEnds.{ServesFrom, ServesMoved}
 use Rattle.cnvm_cli.proofs.Moments.{next_to, opened_to}
-use Rattle.cnvm_cli.proofs.MovedMeaning.{moves_meant}
-use Rattle.cnvm_cli.proofs.Sources.{known_bytes}
+use Rattle.cnvm_cli.proofs.meant.MovedMeaning.{moves_meant}
+use Rattle.cnvm_cli.proofs.texts.Sources.{known_bytes}
 use Rattle.cnvm_cli.proofs.Taking.{taken_map}
 use Rattle.cnvm_cli.proofs.Usable.{sizes_same}
 

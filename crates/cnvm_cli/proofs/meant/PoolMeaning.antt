@@ -21,9 +21,9 @@ use Rattle.session_law.specs.Holds.{Holds}
 use Rattle.session_law.specs.Law.{IsWordCommand, super_words}
 use Rattle.session_law.specs.Ran.{Moment, fresh_moment}
 use Rattle.session_law.specs.Words.{AreWords}
-use Rattle.session_law.proofs.Creating.{created_rests}
-use Rattle.session_law.proofs.Chains.{open_step}
-use Rattle.session_law.proofs.Opening.{opened_answers}
+use Rattle.session_law.proofs.answers.Creating.{created_rests}
+use Rattle.session_law.proofs.chains.Chains.{open_step}
+use Rattle.session_law.proofs.answers.Opening.{opened_answers}
 use Rattle.session_law.proofs.Scripts.{script_words}
 use Rattle.session_run.specs.declared.status.Status.{Status}
 use Rattle.session_run.specs.declared.status.Status.TheVariants as status
@@ -47,12 +47,12 @@ use Rattle.cnvm_words.specs.declared.plan.Plan.TheVariants as plan
 use Rattle.cnvm_cli.specs.Verdict.{HasCommands, TextsGive, asked_by}
 use Rattle.cnvm_cli.specs.World.{Sources}
 use Rattle.cnvm_cli.specs.inside.PoolEnds.{RunsOn, RunsNew, RunsMoved, FileEnds, PlanOnFileEnds}
-use Rattle.cnvm_cli.proofs.CrewMeaning.{crew_meant}
-use Rattle.cnvm_cli.proofs.Meaning.{run_all, run_part, opened_meant}
+use Rattle.cnvm_cli.proofs.meant.CrewMeaning.{crew_meant}
+use Rattle.cnvm_cli.proofs.meant.Meaning.{run_all, run_part, opened_meant}
 use Rattle.cnvm_cli.proofs.Moments.{opened_to}
-use Rattle.cnvm_cli.proofs.MovedMeaning.{moves_meant}
-use Rattle.cnvm_cli.proofs.ServeMeaning.{file_served}
-use Rattle.cnvm_cli.proofs.Sources.{known_bytes}
+use Rattle.cnvm_cli.proofs.meant.MovedMeaning.{moves_meant}
+use Rattle.cnvm_cli.proofs.meant.ServeMeaning.{file_served}
+use Rattle.cnvm_cli.proofs.texts.Sources.{known_bytes}
 use Rattle.cnvm_cli.proofs.Statuses.{strict_memory}
 use Rattle.cnvm_cli.proofs.Taking.{taken_map}
 use Rattle.cnvm_cli.proofs.Usable.{sizes_same}
@@ -313,14 +313,6 @@ pub plan_on_file_as : (words : Option Plan) (asked : Plan) (told : Sources) (res
 plan_on_file_as words asked told result before after is ends kept =
     subst (λ (w : Option Plan). CallOnFile w told result before after) (sym is)
     (kept, plan_on_file asked told result before after ends)
-
--- words that make no plan
-pub no_plan_on_file : (words : Option Plan) (told : Sources) (result : Status)
-    (before after : PoolSide) → words ≡ None → after.held ≡ before.held
-    → after.found ≡ before.found → IsKept after.held → CallOnFile words told result before after
-no_plan_on_file words told result before after is held found kept =
-    subst (λ (w : Option Plan). CallOnFile w told result before after) (sym is)
-    (kept, (held, found))
 
 memory_of_plan : (asked : Plan) (told : Sources) (before after : PoolSide)
     → Keeps before.out after.out → IsUnrun before after

@@ -27,9 +27,9 @@ use Rattle.session_law.specs.Words.{AreWords}
 use Rattle.session_law.specs.History.{history_after}
 use Rattle.session_law.specs.Ran.{found_by, Moment, SessionStep, Ran, fresh_moment}
 use Rattle.session_law.specs.Law.{IsWordCommand, super_words}
-use Rattle.session_law.proofs.Chains.{steps_on, chain_kept, ran_append}
-use Rattle.session_law.proofs.Commands.{each_command}
-use Rattle.session_law.proofs.Creating.{created_rests}
+use Rattle.session_law.proofs.chains.Chains.{steps_on, chain_kept, ran_append}
+use Rattle.session_law.proofs.answers.Commands.{each_command}
+use Rattle.session_law.proofs.answers.Creating.{created_rests}
 use Rattle.cnvm_compile.specs.declared.asked.Asked.{Asked}
 use Rattle.cnvm_compile.specs.declared.compiling.Compiled.{Compiled}
 use Rattle.cnvm_compile.specs.Compilation.{IsCompiled}
@@ -45,7 +45,7 @@ use Rattle.session_run.specs.Storms.{StormedAs}
 use Rattle.cnvm_cli.specs.inside.Ends.{StormEnds}
 use Rattle.cnvm_cli.specs.StormMeant.{Drawn, DrawnOf, tally_of, SummaryPart, CountsMeant}
 use Rattle.cnvm_cli.specs.StormMeant.{CountsPart, CountsCut, StormMeantAs, StormMeant}
-use Rattle.cnvm_cli.proofs.Sources.{known_bytes}
+use Rattle.cnvm_cli.proofs.texts.Sources.{known_bytes}
 use Rattle.cnvm_cli.proofs.Statuses.{status_map}
 
 -- a generated argument is below 16, so it is a word

@@ -30,7 +30,7 @@ use Rattle.cnvm_cli.specs.PoolSide.{PoolSide, MakesFile, TakesImage, RunsFound}
 use Rattle.cnvm_cli.specs.Verdict.{SpellsIn}
 use Rattle.cnvm_cli.specs.World.{Sources}
 use Rattle.cnvm_cli.specs.inside.CrewEnds.{CrewImageEnds, CrewMissingEnds, CrewFoundEnds, CrewEnds}
-use Rattle.cnvm_cli.proofs.Sources.{known_bytes}
+use Rattle.cnvm_cli.proofs.texts.Sources.{known_bytes}
 
 -- the arguments of the first ones are words
 first_args : (first rest : List WorkersCommand) → AllByRecursion HasWordArgs (first ++ rest)
