@@ -8,7 +8,7 @@ use Rattle.cnvm_exit.specs.Exits.{no_sources, new_device, EndsCall}
 use Rattle.cnvm_cli.specs.Meant.{CallMeant}
 use Rattle.cnvm_cli.specs.PoolMeant.{HasPool}
 use Rattle.cnvm_cli.specs.World.{seen}
-use Rattle.cnvm_cli.proofs.Meaning.{memory_meant}
+use Rattle.cnvm_cli.proofs.meant.Meaning.{memory_meant}
 use Rattle.cnvm_cli.proofs.Faultless.{call_never}
 
 -- the call begins on a device that is new, with no step so far

@@ -12,13 +12,13 @@ ghost use Rattle.cnvm_exit.specs.inside.Paths.{paths_in, origin_of, path_of_scri
 
 use crate::answer_sink::AnswerSink;
 use crate::line_notes::{INPUT, LineNotes};
-use crate::notes::{FileWorld, Named, put_bytes, tell_end};
+use crate::notes::{FileWorld, IMAGE_KEPT, Named, put_bytes, tell_end};
 use crate::script_source::{MOST_KEPT, Origin, ScriptSource};
 use cnvm_cli::{World, cnvm};
 use cnvm_session::Traps;
 use cnvm_words::{Plan, WordsFault, plan_of};
 use file_pmem::{FilePmem, Hold, StdFile, StdPools};
-use nvm_base::{KeptSource, SavedFile, StdNotes, StdSink, StdSource, Steps, Text};
+use nvm_base::{KeptSource, SavedFile, Sink, StdNotes, StdSink, StdSource, Steps, Text};
 use pmem::{SparseLines, SparsePmem};
 use session_run::Status;
 use std::alloc::Global;
@@ -251,7 +251,11 @@ where
         program: KeptSource::new(alloc, StdSource::new(rt, paths.program.as_str())),
         former: KeptSource::new(alloc, StdSource::new(rt, paths.former.as_str())),
         script: ScriptSource::new(alloc, rt, paths.script.as_str(), paths.origin, most),
-        image_in: KeptSource::new(alloc, StdSource::new(rt, paths.image_in.as_str())),
+        image_in: KeptSource::first(
+            alloc,
+            StdSource::new(rt, paths.image_in.as_str()),
+            IMAGE_KEPT,
+        ),
         out: AnswerSink::new(alloc, StdSink::standard(rt), most),
         image_out: SavedFile::new(rt, paths.image_out.as_str()),
         dev,
@@ -287,6 +291,8 @@ where
     let status = cnvm(
         alloc, words, &mut world, &mut pools, &mut held, &mut bad, &mut steps,
     );
+    // A run that ended early leaves answers that are held back.
+    let _ = world.out.finish();
     let mut notes = StdNotes::new(rt);
     tell_end(
         alloc,

@@ -21,6 +21,9 @@ use session_run::Status;
 use std::alloc::{AllocError, Global};
 use std::rt::Files;
 
+/// How many of the first bytes of an image are kept. Messages name its words up to the function.
+pub(crate) const IMAGE_KEPT: usize = 256;
+
 /// What a run on files reads and writes, with a copy of what went through.
 pub(crate) type FileWorld<'a, R, P> = World<
     KeptSource<StdSource<'a, R>>,
@@ -404,7 +407,8 @@ fn of_refused_image<R: Files + Input + Print + AllocGlobal, P: Drop>(
         )?;
         return plain(alloc, what.as_str());
     }
-    if let Some(what) = other_count(alloc, words, named.image_in, line.as_str(), image)? {
+    let held = world.image_in.count();
+    if let Some(what) = other_count(alloc, words, named.image_in, line.as_str(), held)? {
         return plain(alloc, what.as_str());
     }
     let refusal = refusal_of(alloc, words, line.as_str(), image);
@@ -420,13 +424,14 @@ fn of_refused_image<R: Files + Input + Print + AllocGlobal, P: Drop>(
 }
 
 /// What is wrong with a file of another number of pools than there are workers, if that was written
-/// of it: the first pool that is missing is too short, or the last one too long.
+/// of it: the first pool that is missing is too short, or the last one too long. So many bytes of
+/// the file were read.
 fn other_count(
     alloc: Global,
     words: &[String],
     path: &str,
     line: &str,
-    image: &[u8],
+    held: u64,
 ) -> Result<Option<String>, AllocError> {
     let Ok(Plan::WorkersPool { workers, .. }) = plan_of(alloc, words) else {
         return Ok(None);
@@ -436,7 +441,6 @@ fn other_count(
     let kind = parts.next().unwrap_or("");
     let found = number(parts.next());
     let wanted = number(parts.next()).unsigned_abs();
-    let held = image.len() as u64;
     if kind == "short" && found == 0 && held > 0 && wanted > 0 {
         let pools = held / wanted;
         let noun = if pools == 1 { "pool" } else { "pools" };

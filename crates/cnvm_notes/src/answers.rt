@@ -1,6 +1,6 @@
 //! The message of answers that are traps or refusals.
 
-use crate::lines::{TrapEnd, after_dead, after_slots, first_line, trap_end, unusable};
+use crate::lines::{TrapEnd, after_dead, after_slots, any_tells, first_line, trap_end, unusable};
 use crate::summary::{Refusals, push_message, push_refused, unless_empty, with_line};
 use cache_model::PickFault;
 use cnvm_script::{Command, next_line, read_line};
@@ -42,8 +42,11 @@ struct Found {
 }
 
 /// The message of the answers that a script's commands were given, where one is a trap or a
-/// refusal.
+/// refusal. Where no line tells one, the script isn't read again.
 pub fn answers_note(alloc: Global, run: RunTexts<'_>) -> Result<Option<String>, AllocError> {
+    if !any_tells(run.answers) {
+        return Ok(None);
+    }
     let mut found = found_of(alloc);
     let mut left = run.answers;
     if run.opened {

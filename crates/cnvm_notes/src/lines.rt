@@ -66,6 +66,26 @@ pub(crate) fn trap_end(line: &[u8]) -> Option<TrapEnd<'_>> {
     None
 }
 
+/// Whether a line of these answers begins as one that tells a trap or a refusal.
+pub(crate) fn any_tells(answers: &[u8]) -> bool {
+    let mut begins = true;
+    for (at, byte) in answers.iter().enumerate() {
+        if begins && tells(*byte, &answers[at..]) {
+            return true;
+        }
+        begins = *byte == b'\n';
+    }
+    false
+}
+
+/// Whether a text with this first byte begins as a line that tells a trap or a refusal.
+fn tells(first: u8, text: &[u8]) -> bool {
+    match first {
+        b't' | b'a' | b'r' => text.starts_with(b"refused ") || trap_end(text).is_some(),
+        _ => false,
+    }
+}
+
 /// The number of a worker at the head of an answer, if there is one, and the rest.
 pub(crate) fn worker_answer(line: &[u8]) -> (Option<u64>, &[u8]) {
     let mut number = 0u64;

@@ -3,7 +3,7 @@
 -- token of the word's text is a name, and that is the whole word. So scripts and programs have one
 -- reading of names, and one list of words that are none.
 use Rattle.std.specs.Prelude.{ℕ, List, Bool, false, Option, None, Some, Result, Ok, Err}
-use Rattle.std.specs.Prelude.{if◌then◌else◌, bytes_eq, slice_get}
+use Rattle.std.specs.Prelude.{bytes_eq, slice_get}
 use Rattle.c_lexer.specs.declared.fault.LexFault.{LexFault}
 use Rattle.c_lexer.specs.declared.token.Placed.{Placed}
 use Rattle.c_lexer.specs.declared.token.Token.{Token}

@@ -1,10 +1,22 @@
 //! Cutting texts into lines and words.
 
 ghost use Rattle.std.specs.Prelude.{◌≡◌, ◌<◌, ◌≤◌, ◌∷◌, [], length, IfOk, map, codes, MatchOption};
-ghost use Rattle.cnvm_script.specs.Pieces.{pieces};
+ghost use Rattle.cnvm_script.specs.Pieces.{is_one_of, pieces};
 ghost use Rattle.cnvm_script.specs.Lines.{lines, words_of_line, without_cr};
 
 use std::alloc::{AllocError, Global};
+
+/// Whether a byte is one of the stops.
+fn is_one_of(stops: &[u8], byte: u8) -> bool
+    ensures { result ≡ is_one_of stops.now byte }
+{
+    for stop in stops {
+        if *stop == byte {
+            return true;
+        }
+    }
+    false
+}
 
 /// The text up to the first stop, and the text after that stop.
 #[tactic(auto, using(crate::proofs::Cuts::cut_start, crate::proofs::Cuts::cut_step, crate::proofs::Cuts::cut_stop, crate::proofs::Cuts::cut_end))]
@@ -15,7 +27,7 @@ pub(crate) fn cut<'a>(text: &'a [u8], stops: &[u8]) -> (&'a [u8], Option<&'a [u8
         (λ rest. length rest.now < length text.now) }
 {
     for (at, byte) in text.iter().enumerate() {
-        if stops.contains(byte) {
+        if is_one_of(stops, *byte) {
             return (&text[..at], Some(&text[at + 1..]));
         }
     }

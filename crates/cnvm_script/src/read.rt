@@ -10,7 +10,7 @@ ghost use Rattle.cnvm_script.specs.Reads.{Gives, GivesScript};
 use crate::command::{Command, Script};
 use crate::cut::{next_line, words_of};
 use crate::fault::{LineFault, ScriptFault};
-use crate::name::name_of;
+use crate::name::{Names, name_of};
 use crate::number::{argument, event_number, pick};
 use cache_model::{Choice, Pick, Picks, Rest};
 use nvm_base::Words;
@@ -25,11 +25,12 @@ pub fn read_script(alloc: Global, bytes: &[u8]) -> Result<Script, ScriptFault>
     ensures { GivesScript result (script_meaning bytes.now) }
 {
     let mut script = Script::new(alloc);
+    let mut names = Names::new(alloc);
     let mut rest = bytes;
     let mut number = 1u64;
     'lines: while !rest.is_empty() {
         let (line, others) = next_line(rest);
-        let read = match read_line(alloc, line) {
+        let read = match read_after(alloc, &mut names, line) {
             Ok(read) => read,
             Err(LineFault::Bad) => return Err(ScriptFault::BadLine(number)),
             Err(LineFault::NoMemory) => return Err(ScriptFault::NoMemory),
@@ -55,32 +56,50 @@ fn add(script: &mut Script, read: Option<Command>) -> Result<(), AllocError>
 pub fn read_line(alloc: Global, line: &[u8]) -> Result<Option<Command>, LineFault>
     ensures { Gives result (line_meaning line.now) }
 {
+    let mut names = Names::new(alloc);
+    read_after(alloc, &mut names, line)
+}
+
+/// The same, after these names were read.
+fn read_after(alloc: Global, names: &mut Names, line: &[u8]) -> Result<Option<Command>, LineFault>
+    ensures { Gives result (line_meaning line.now) }
+{
     let words = words_of(alloc, line)?;
     match words.as_slice() {
         [] => Ok(None),
-        [word, others @ ..] => read_words(alloc, word, others),
+        [word, others @ ..] => read_words(alloc, names, word, others),
     }
 }
 
 /// The command of a line's words.
-fn read_words(alloc: Global, word: &[u8], others: &[&[u8]]) -> Result<Option<Command>, LineFault>
+fn read_words(
+    alloc: Global,
+    names: &mut Names,
+    word: &[u8],
+    others: &[&[u8]],
+) -> Result<Option<Command>, LineFault>
     ensures { Gives result (meaning (word.now ∷ map (λ word. word.now) others.now)) }
 {
     if !word.is_empty() && word[0] == b'#' {
         return Ok(None);
     }
-    match read_command(alloc, word, others) {
+    match read_command(alloc, names, word, others) {
         Ok(command) => Ok(Some(command)),
         Err(fault) => Err(fault),
     }
 }
 
 /// The command that the word names.
-fn read_command(alloc: Global, word: &[u8], others: &[&[u8]]) -> Result<Command, LineFault>
+fn read_command(
+    alloc: Global,
+    names: &mut Names,
+    word: &[u8],
+    others: &[&[u8]],
+) -> Result<Command, LineFault>
     ensures { Gives result (command word.now (map (λ word. word.now) others.now)) }
 {
     if is_word(word, "call") {
-        return read_call(alloc, others);
+        return call_of(alloc, names, others);
     }
     if is_word(word, "stop") {
         return Ok(Command::Stop(read_event(others)?));
@@ -142,10 +161,18 @@ pub fn read_event(words: &[&[u8]]) -> Result<u64, LineFault>
 pub fn read_call(alloc: Global, words: &[&[u8]]) -> Result<Command, LineFault>
     ensures { Gives result (call_command (map (λ word. word.now) words.now)) }
 {
+    let mut names = Names::new(alloc);
+    call_of(alloc, &mut names, words)
+}
+
+/// The same, after these names were read.
+fn call_of(alloc: Global, names: &mut Names, words: &[&[u8]]) -> Result<Command, LineFault>
+    ensures { Gives result (call_command (map (λ word. word.now) words.now)) }
+{
     let [name, args @ ..] = words else {
         return Err(LineFault::Bad);
     };
-    let name = name_of(alloc, name)?;
+    let name = name_of(alloc, names, name)?;
     let args = read_args(alloc, args)?;
     Ok(Command::Call { name, args })
 }

@@ -4,7 +4,7 @@ use Rattle.std.proofs.Common.{subst, arith, slice_get, Bool, true}
 use Rattle.std.specs.Prelude.{if◌then◌else◌}
 use Rattle.cache_model.specs.Cache.{Words}
 use Rattle.pmem.specs.Device.{Device}
-use Rattle.pool_map.specs.declared.trap.TrapKind.TheVariants.{Steps, Depth}
+use Rattle.pool_map.specs.declared.trap.TrapKind.TheVariants.{Depth}
 use Rattle.pm_machine.specs.declared.op.Op.{Op}
 use Rattle.pm_machine.specs.declared.effect.Effect.{Effect}
 use Rattle.pm_machine.specs.declared.effect.Effect.TheVariants.{Loads, Scans, Stores, Logs, Flushes}
@@ -104,11 +104,3 @@ module _ (image : Image) (d : Device) (m k : ℕ) (s : State) (n0 k0 : ℕ) (s0 
       go (Goes (Flushes l) u) silent = absurd silent
       go (Goes Fences u) silent = absurd silent
       go (Ends end) silent = absurd silent
-
-  -- no step is left
-  pub looks_over : m ≡ 0 → RestLooks image d m k s n0 k0 s0
-      → (Trapped Steps ≡ start.end) × (k ≡ k0 + start.steps)
-  looks_over none h =
-      let l = subst (λ (n : ℕ). RestLooks image d n k s n0 k0 s0) none h in
-      let same : k + 0 ≡ k0 + start.steps = l.steps in
-      (l.end, omega arith)

@@ -6,10 +6,7 @@ use Rattle.std.proofs.lemmas.List.{length-replicate, get_or_append_left}
 use Rattle.std.proofs.lemmas.List.{get_or-append_right, set-append_left, set_past}
 use Rattle.std.proofs.lemmas.List.{replicate-append-replicate}
 use Rattle.cache_model.proofs.Lists.{zeros_at}
-
--- the registers after those that are kept, n in all
-abbrev pub all_words : ℕ → List ℤ → List ℤ
-all_words n xs = xs ++ replicate (n - length xs) (pos 0)
+use Rattle.pm_machine.specs.inside.Kept.{all_words}
 
 pub kept_length : (n : ℕ) (xs : List ℤ) → length xs ≤ n → length (all_words n xs) ≡ n
 kept_length n xs le =

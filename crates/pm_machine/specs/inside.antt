@@ -2,5 +2,6 @@
 pub mod Answers
 pub mod Code
 pub mod Found
+pub mod Kept
 pub mod Runs
 pub mod Stack

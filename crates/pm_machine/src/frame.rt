@@ -1,10 +1,17 @@
 //! An open function of the machine, and the words of its registers.
 
 ghost use Rattle.std.specs.Prelude.{◌≡◌, ◌≤◌, ◌<◌, ◌-◌, ◌++◌, length, pos, replicate};
-ghost use Rattle.std.specs.Prelude.{slice_index_or, slice_set, IfOk, vec_capacity};
+ghost use Rattle.std.specs.Prelude.{slice_index_or, slice_set, IfOk, vec_capacity, ◌+◌};
+ghost use Rattle.pool_layout.specs.Sizes.{pool_lines};
+ghost use Rattle.pm_machine.specs.inside.Runs.{StretchLeads, StretchLooks};
 
+use crate::image::Image;
+use crate::silent::{Reached, run_kept};
+use nvm_base::Steps;
+use pmem::PmemWork;
 use std::alloc::{AllocError, Global};
 use std::marker::Model;
+use std::sync::ledger::Ledger;
 
 /// The registers of a frame. Only those up to a little past the last written one are kept; all
 /// others read as 0. So a call's cost depends on the registers that it writes.
@@ -26,7 +33,27 @@ impl Model for RegisterWords {
 }
 
 /// How many words are kept from a newly written register on.
-const MORE: usize = 8;
+const MORE: usize = 64;
+
+/// Appends words; there is room for them.
+fn append(words: &mut Vec<i64>, more: &[i64])
+    requires room { length words.old.items + length more.now ≤ vec_capacity words.old }
+    ensures items { words.new.items ≡ words.old.items ++ more.now }
+    ensures capacity { vec_capacity words.old ≤ vec_capacity words.new }
+{
+    let _ = words.extend_from_slice(more);
+}
+
+/// Appends zeros; there is room for them.
+fn add_zeros(words: &mut Vec<i64>, count: usize)
+    requires few { count ≤ 64 }
+    requires room { length words.old.items + count ≤ vec_capacity words.old }
+    ensures items { words.new.items ≡ words.old.items ++ replicate count (pos 0) }
+    ensures capacity { vec_capacity words.old ≤ vec_capacity words.new }
+{
+    let zeros = [0; MORE];
+    append(words, &zeros[..count]);
+}
 
 /// Keeps more words, up to this register and a few more; there is room for all `count` of them.
 #[tactic(auto, using(std::proofs::lemmas::List::take_all, crate::proofs::Registers::zeros_kept))]
@@ -40,8 +67,13 @@ fn keep(words: &mut Vec<i64>, register: usize, count: usize)
     ensures few { length words.new.items ≤ count }
     ensures capacity { vec_capacity words.old ≤ vec_capacity words.new }
 {
-    let more = (count - register).min(MORE);
-    let _ = words.resize(register + more, 0);
+    let end = register + (count - register).min(MORE);
+    let more = end - words.len();
+    if more <= MORE {
+        add_zeros(words, more);
+    } else {
+        let _ = words.resize(end, 0);
+    }
 }
 
 impl RegisterWords {
@@ -101,6 +133,38 @@ impl RegisterWords {
     {
         self.kept.clear();
         let _ = self.kept.extend_from_slice(words);
+    }
+
+    /// Keeps at least so many words, if there are as many registers.
+    pub(crate) fn keep_first(&mut self, least: usize)
+        ensures { self.new ≡ self.old }
+    {
+        if self.kept.len() < least && least <= self.count {
+            keep(&mut self.kept, least - 1, self.count);
+        }
+    }
+
+    /// Does the next instructions of a function that have no event, as long as they write only
+    /// registers that are kept, and as long as steps are left.
+    #[tactic(auto, using(crate::proofs::Registers::kept_length))]
+    pub(crate) fn run_silently<P: PmemWork, L: Ledger>(
+        &mut self,
+        dev: &P,
+        image: &Image,
+        function: u32,
+        from: Reached,
+        steps: &mut Steps<L>,
+    ) -> Reached
+        requires lines { (P.device dev.now).lines ≡ pool_lines image.now.parts.sizes }
+        ensures leads { StretchLeads image.now (P.device dev.now) function self.new result
+            steps.new self.old from steps.old }
+        ensures looks { StretchLooks image.now (P.device dev.now) function self.new result
+            steps.new self.old from steps.old }
+        ensures spent { steps.new + result.left ≡ steps.old + from.left }
+        ensures fewer { result.left ≤ from.left }
+        ensures size { length self.new ≡ length self.old }
+    {
+        run_kept(dev, image, function, self.kept.as_mut_slice(), from, steps)
     }
 
     /// Sets all registers to 0.

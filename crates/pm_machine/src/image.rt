@@ -240,6 +240,14 @@ impl Image {
         }
     }
 
+    /// The number of registers of a function; 0 if there is no such function.
+    pub(crate) fn registers(&self, function: u32) -> usize {
+        match self.parts.functions.get(function as usize) {
+            None => 0,
+            Some(function) => function.registers as usize,
+        }
+    }
+
     /// The function of a transaction.
     pub(crate) fn function(&self, tx: u64) -> u32
         requires first { 1 ≤ tx }

@@ -5,9 +5,10 @@ ghost use Rattle.std.specs.Prelude.{◌≡◌, ◌≢◌, IfErr, IsOk, true, Lis
 ghost use Rattle.std.specs.Prelude.{◌^◌, replicate, ◌<◌, ◌≤◌, ◌++◌, ◌∷◌, [], ℕ, pos, Option, Some};
 ghost use Rattle.std.specs.Prelude.{None, IfOk, IfSome, IfNone, OnOk, OnErr, IsErrOf, length, take};
 ghost use Rattle.std.specs.Prelude.{drop, map, slice_get, option_copied, IsSome, if◌then◌else◌};
-ghost use Rattle.std.specs.Prelude.{◌==◌, false};
+ghost use Rattle.std.specs.Prelude.{◌==◌, false, nat_eq};
 ghost use Rattle.std.specs.Option.{ForSome};
 ghost use Rattle.std.specs.Ordering.{int_eq};
+ghost use Rattle.indexmap.specs.IndexSet.{insert_key};
 ghost use Rattle.pool_map.specs.declared.trap.TrapKind.TheVariants as trap;
 ghost use Rattle.pool_map.specs.Trap.{trap_of};
 ghost use Rattle.pool_layout.specs.Sizes.{heap_words, pool_lines};
@@ -36,7 +37,7 @@ use crate::frames::{CALLERS, Frames};
 use crate::image::Image;
 use crate::op::Op;
 use crate::records::Policy;
-use crate::silent::{Reached, run_silently};
+use crate::silent::Reached;
 use crate::stop::Stop;
 use clobber_log::append_record;
 use indexmap::IndexSet;
@@ -121,6 +122,28 @@ fn drop_first(lines: &mut IndexSet<u64>, count: usize)
     }
 }
 
+/// Whether a line is the last of the set, as that of a store to the object of the store before.
+#[tactic(auto, using(crate::proofs::DirtyLines::put_again))]
+fn is_last(lines: &IndexSet<u64>, line: u64) -> bool
+    ensures { result ≡ true → insert_key nat_eq lines.now.keys line ≡ lines.now.keys }
+{
+    match lines.last() {
+        Some(last) => *last == line,
+        None => false,
+    }
+}
+
+/// Puts a line at the end of the set, unless it is there.
+fn put_line(lines: &mut IndexSet<u64>, line: u64) -> Result<(), AllocError>
+    ensures ok { OnOk result (lines.new.keys ≡ insert_key nat_eq lines.old.keys line) }
+    ensures err { OnErr result (lines.new.keys ≡ lines.old.keys) }
+{
+    if !is_last(lines, line) {
+        lines.insert(line)?;
+    }
+    Ok(())
+}
+
 /// The line at a place of the set.
 #[tactic(auto, using(crate::proofs::DirtyLines::first_in, std::proofs::lemmas::Option::slice_get_past))]
 fn line_at(lines: &IndexSet<u64>, at: usize) -> Option<u64>
@@ -178,7 +201,7 @@ impl Processor {
     {
         drop_first(&mut self.lines, self.flushed);
         self.flushed = 0;
-        self.lines.insert(w / 8)?;
+        put_line(&mut self.lines, w / 8)?;
         self.top.place += 1;
         Ok(())
     }
@@ -216,7 +239,7 @@ fn place(from: &RegisterWords, to: &mut RegisterWords, args: &[u32])
 
 impl Processor {
     /// Opens a function on the spare registers, if there is room for its caller.
-    fn enter(&mut self, r: u32, f: u32, args: &[u32]) -> bool
+    fn enter(&mut self, image: &Image, r: u32, f: u32, args: &[u32]) -> bool
         requires { self.old.top.place < 2 ^ 63 }
         ensures meaning { (if result then Goes Quiet self.new else Ends (Trapped trap.Depth))
             ≡ call self.old r f args.now }
@@ -226,6 +249,7 @@ impl Processor {
         }
         self.spare.clear();
         place(&self.top.registers, &mut self.spare, args);
+        self.spare.keep_first(image.registers(f));
         self.top.place += 1;
         self.below.push(&self.top);
         mem::swap(&mut self.top.registers, &mut self.spare);
@@ -359,11 +383,11 @@ impl Processor {
         }
     }
 
-    fn call(&mut self, r: u32, f: u32, args: &[u32]) -> Progress
+    fn call(&mut self, image: &Image, r: u32, f: u32, args: &[u32]) -> Progress
         requires { self.old.top.place < 2 ^ 63 }
         ensures meaning { outcome_of result self.new ≡ call self.old r f args.now }
     {
-        if self.enter(r, f, args) {
+        if self.enter(image, r, f, args) {
             Progress::Did(Effect::Quiet)
         } else {
             Progress::Ended(End::Trapped(TrapKind::Depth))
@@ -464,7 +488,7 @@ impl Processor {
                 self.pass();
                 Ok(Progress::Did(Effect::Fences))
             }
-            Op::Call { r, f, args } => Ok(self.call(*r, *f, args.as_slice())),
+            Op::Call { r, f, args } => Ok(self.call(image, *r, *f, args.as_slice())),
             Op::Ret { a } => Ok(self.leave(*a)),
             Op::Tick => Ok(self.tick()),
             Op::Trap { k } => Ok(trapped(*k)),
@@ -546,9 +570,12 @@ impl Processor {
         self.top.to = 0;
         self.top.registers.clear();
         fill(&mut self.top.registers, args);
+        self.top
+            .registers
+            .keep_first(image.registers(self.top.function));
         self.below.clear();
         self.ticks = image.sizes().ticks();
-        self.lines.clear();
+        self.lines.truncate(0);
         self.flushed = 0;
     }
 
@@ -593,7 +620,8 @@ impl Processor {
             left,
         };
         let function = self.top.function;
-        let to = run_silently(dev, image, function, &mut self.top.registers, from, steps);
+        let registers = &mut self.top.registers;
+        let to = registers.run_silently(dev, image, function, from, steps);
         self.top.place = to.place;
         self.ticks = to.ticks;
         to.left

@@ -25,7 +25,7 @@ pub use limits::{
 pub use object::Object;
 pub use pool::Pool;
 pub use shapes::{FieldShape, FieldShapes, Shapes, StructShape, StructShapes};
-pub use show::{show_text, word_digits};
+pub use show::show_text;
 pub use trap::TrapKind;
 pub use width::slot_words;
 pub use word::PoolWord;

@@ -165,7 +165,7 @@ fn push_word(alloc: Global, text: &mut Text, unsigned: bool, word: i64) -> Resul
 }
 
 /// The digits of a word, as a number with its sign or as one from 0 on.
-pub fn word_digits(alloc: Global, unsigned: bool, word: i64) -> Result<String, AllocError>
+fn word_digits(alloc: Global, unsigned: bool, word: i64) -> Result<String, AllocError>
     ensures { IfOk result (λ s. string_bytes s ≡ word_text unsigned word) }
 {
     if unsigned {

@@ -1,3 +1,4 @@
+pub mod Pieces
 pub mod Holding
 pub mod Raging
 pub mod Running

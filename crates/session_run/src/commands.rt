@@ -14,8 +14,8 @@ use pmem::Pmem;
 use std::alloc::Global;
 use std::sync::ledger::Ledger;
 
-/// Runs the commands in order, and writes each answer before the next command. Tells whether one
-/// of the answers is a trap or a refusal.
+/// Runs the commands in order, and writes each answer before the next command; the sink may hold
+/// them back up to the last. Tells whether one of the answers is a trap or a refusal.
 pub(crate) fn answer_all<K: Sink, P: Pmem, L: Ledger>(
     alloc: Global,
     program: &Program,
@@ -37,11 +37,13 @@ pub(crate) fn answer_all<K: Sink, P: Pmem, L: Ledger>(
     ensures lines { (P.device dev.new).lines ≡ pool_lines program.now.image.parts.sizes }
 {
     let mut unmet = false;
+    let mut left = commands.len();
     for given in commands {
+        left = left.saturating_sub(1);
         let answer = session.command(alloc, program, given, dev, steps);
         traps.saw(&answer, session);
         unmet = unmet_after(unmet, &answer);
-        if let Err(why) = put_answer(alloc, &answer, out) {
+        if let Err(why) = put_answer(alloc, &answer, left > 0, out) {
             return Err(why);
         }
     }

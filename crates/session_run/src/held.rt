@@ -26,7 +26,7 @@ use crate::writing::{Unwritten, put_answer};
 use cnvm_script::{Command, Script};
 use cnvm_session::{Answer, Program, Session, StartFault, Traps, create, open_pool, resume};
 use file_pmem::{FilePmem, LineFile};
-use nvm_base::{Sink, Steps, Words, write_all};
+use nvm_base::{Sink, Steps, Words, write_whole};
 use pmem::{Lines, Pmem};
 use std::alloc::Global;
 use std::sync::ledger::Ledger;
@@ -61,7 +61,7 @@ fn answer_kept<K: Sink, N: Lines + Drop, F: LineFile + Drop>(
         → Rose (K.faults out.old) (K.faults out.new) }
     ensures count { K.faults out.old ≤ K.faults out.new }
 {
-    match put_answer(alloc, answer, out) {
+    match put_answer(alloc, answer, false, out) {
         Err(Unwritten::NoMemory) => Err(Unheld::NoMemory),
         Err(Unwritten::WriteFault) => Err(Unheld::WriteFault),
         Ok(()) if dev.keeps() => Ok(()),
@@ -223,11 +223,12 @@ pub fn answer_script<K: Sink, N: Lines + Drop, F: LineFile + Drop, L: Ledger>(
 
 /// Opens the pool with these words, which are those of the file, mirrors it in the file, and writes
 /// how it was recovered; then runs the script's commands, and writes each answer before the next.
+/// The words are let go once the pool is open.
 pub fn run_held<K: Sink, N: Lines + Drop, F: LineFile + Drop, L: Ledger>(
     alloc: Global,
     program: &Program,
     script: &Script,
-    words: &[i64],
+    words: Words,
     file: F,
     traps: &mut Traps,
     out: &mut K,
@@ -235,26 +236,29 @@ pub fn run_held<K: Sink, N: Lines + Drop, F: LineFile + Drop, L: Ledger>(
     steps: &mut Steps<L>,
 ) -> Status
     requires holds { HoldsWords (F.content file)
-        (pool_lines program.now.image.parts.sizes) words.now }
+        (pool_lines program.now.image.parts.sizes) words }
     ensures read { result ≢ Status.ReadFault }
     ensures usage { result ≢ Status.Usage }
     ensures busy { result ≢ Status.PoolBusy }
     ensures write { result ≡ Status.WriteFault → Rose (K.faults out.old) (K.faults out.new) }
-    ensures ran { HeldAs program.now script.now words.now result dev.new.link.state
+    ensures ran { HeldAs program.now script.now words result dev.new.link.state
         (K.written out.old) (K.written out.new) (file_device N.memory dev.old)
         (file_device N.memory dev.new) steps.old steps.new }
 {
-    match open_held(alloc, program, words, file, traps, out, dev, steps) {
-        Ok(mut session) => answer_script(
-            alloc,
-            program,
-            script,
-            &mut session,
-            traps,
-            out,
-            dev,
-            steps,
-        ),
+    match open_held(
+        alloc,
+        program,
+        words.as_slice(),
+        file,
+        traps,
+        out,
+        dev,
+        steps,
+    ) {
+        Ok(mut session) => {
+            drop(words);
+            answer_script(alloc, program, script, &mut session, traps, out, dev, steps)
+        }
         Err(status) => status,
     }
 }
@@ -309,7 +313,7 @@ pub fn run_new<K: Sink, N: Lines + Drop, F: LineFile + Drop, L: Ledger>(
     dev.know();
     dev.hold(file);
     dev.wake();
-    if let Err(_) = write_all(out, CREATED.as_bytes()) {
+    if let Err(_) = write_whole(out, CREATED.as_bytes()) {
         return Status::WriteFault;
     }
     answer_script(alloc, program, script, &mut session, traps, out, dev, steps)

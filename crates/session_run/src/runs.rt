@@ -12,7 +12,7 @@ use crate::status::Status;
 use crate::writing::{Unwritten, put_answer};
 use cnvm_script::Script;
 use cnvm_session::{Program, Session, StartFault, Traps, create, start_from};
-use nvm_base::{Sink, Steps};
+use nvm_base::{Sink, Steps, Words};
 use pmem::Pmem;
 use std::alloc::Global;
 use std::sync::ledger::Ledger;
@@ -61,12 +61,12 @@ pub fn run_created<K: Sink, P: Pmem, L: Ledger>(
 }
 
 /// Opens the pool with these words, and writes how it was recovered; then runs the script's
-/// commands, and writes each answer before the next.
+/// commands, and writes each answer before the next. The words are let go once the pool is open.
 pub fn run_from<K: Sink, P: Pmem, L: Ledger>(
     alloc: Global,
     program: &Program,
     script: &Script,
-    words: &[i64],
+    words: Words,
     traps: &mut Traps,
     out: &mut K,
     dev: &mut P,
@@ -77,19 +77,21 @@ pub fn run_from<K: Sink, P: Pmem, L: Ledger>(
     ensures write { result ≡ Status.WriteFault → Rose (K.faults out.old) (K.faults out.new) }
     ensures device { result ≡ Status.DeviceFault
         → device.FaultsRose (P.device dev.old).faults (P.device dev.new).faults }
-    ensures ran { OpenedAs program.now script.now words.now result
+    ensures ran { OpenedAs program.now script.now words result
         (K.written out.old) (K.written out.new) (P.device dev.old) (P.device dev.new) steps.old
         steps.new }
     ensures lines { IsAnswered result
         → (P.device dev.new).lines ≡ pool_lines program.now.image.parts.sizes }
 {
-    let (mut session, answer) = match start_from(alloc, program, words, dev, steps) {
+    let (mut session, answer) = match start_from(alloc, program, words.as_slice(), dev, steps) {
         Ok(started) => started,
         Err(StartFault::Failed) => return Status::DeviceFault,
         Err(StartFault::NoMemory) => return Status::NoMemory,
     };
+    drop(words);
     traps.saw(&answer, &session);
-    match put_answer(alloc, &answer, out) {
+    let more = !script.as_slice().is_empty();
+    match put_answer(alloc, &answer, more, out) {
         Ok(()) => run_commands(alloc, program, script, &mut session, traps, out, dev, steps),
         Err(Unwritten::NoMemory) => Status::NoMemory,
         Err(Unwritten::WriteFault) => Status::WriteFault,

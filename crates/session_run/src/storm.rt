@@ -19,7 +19,7 @@ use crate::status::Status;
 use crate::writing::{Unwritten, put_answer};
 use cnvm_script::{Command, Storm};
 use cnvm_session::{Answer, Program, Session, StartFault, Traps, create};
-use nvm_base::{Sink, Steps, write_all};
+use nvm_base::{Sink, Steps, write_whole};
 use pmem::Pmem;
 use std::alloc::{AllocError, Global};
 use std::sync::ledger::Ledger;
@@ -240,7 +240,7 @@ fn put_counts<K: Sink, P: Pmem, L: Ledger>(
         return Err(why);
     }
     let last = session.command(alloc, program, &Command::Last, dev, steps);
-    match put_answer(alloc, &last, out) {
+    match put_answer(alloc, &last, false, out) {
         Ok(()) => Ok(tally.broken != 0),
         Err(why) => Err(why),
     }
@@ -382,7 +382,7 @@ fn put_tally<K: Sink>(
     let Ok(text) = summary(alloc, tally, plain) else {
         return Err(Unwritten::NoMemory);
     };
-    match write_all(out, text.as_str().as_bytes()) {
+    match write_whole(out, text.as_str().as_bytes()) {
         Ok(()) => Ok(()),
         Err(_) => Err(Unwritten::WriteFault),
     }

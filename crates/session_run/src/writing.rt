@@ -10,7 +10,7 @@ ghost use Rattle.session_run.specs.Told.{TellsAs};
 
 use crate::status::Status;
 use cnvm_session::{Answer, answer_text};
-use nvm_base::{Sink, write_all};
+use nvm_base::{Sink, WriteFault, write_all, write_whole};
 use std::alloc::{AllocError, Global};
 
 /// Why a line wasn't written.
@@ -27,7 +27,7 @@ pub fn put<K: Sink>(out: &mut K, text: &str, status: Status) -> Status
     ensures write { result ≡ Status.WriteFault → (status ≡ Status.WriteFault)
         ⊎ Rose (K.faults out.old) (K.faults out.new) }
 {
-    match write_all(out, text.as_bytes()) {
+    match write_whole(out, text.as_bytes()) {
         Ok(()) => status,
         Err(_) => Status::WriteFault,
     }
@@ -49,10 +49,25 @@ pub fn tell<K: Sink>(out: &mut K, line: Result<String, AllocError>, status: Stat
     }
 }
 
-/// Writes the whole lines of an answer.
+/// Writes the bytes. Unless more follow, it ends the sink, so that this holds none of them back.
+fn put_bytes<K: Sink>(out: &mut K, bytes: &[u8], more: bool) -> Result<(), WriteFault>
+    ensures ok { OnOk result (Appends (K.written out.old) (K.written out.new) bytes.now) }
+    ensures part { OnErr result (AppendsPart (K.written out.old) (K.written out.new) bytes.now) }
+    ensures fault { OnErr result (Rose (K.faults out.old) (K.faults out.new)) }
+    ensures count { K.faults out.old ≤ K.faults out.new }
+{
+    if more {
+        write_all(out, bytes)
+    } else {
+        write_whole(out, bytes)
+    }
+}
+
+/// Writes the whole lines of an answer, which the sink may hold back if more answers follow.
 pub(crate) fn put_answer<K: Sink>(
     alloc: Global,
     answer: &Answer,
+    more: bool,
     out: &mut K,
 ) -> Result<(), Unwritten>
     ensures whole { OnOk result (Appends (K.written out.old) (K.written out.new)
@@ -66,7 +81,7 @@ pub(crate) fn put_answer<K: Sink>(
     let Ok(text) = answer_text(alloc, answer) else {
         return Err(Unwritten::NoMemory);
     };
-    match write_all(out, text.as_str().as_bytes()) {
+    match put_bytes(out, text.as_str().as_bytes(), more) {
         Ok(()) => Ok(()),
         Err(_) => Err(Unwritten::WriteFault),
     }

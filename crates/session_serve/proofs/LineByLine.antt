@@ -1,7 +1,7 @@
 -- Lines are answered one after another: what was answered before is put before what follows.
 use Rattle.std.proofs.Common.{◌≡◌, ℕ, ◌+◌, ◌<◌, ◌≤◌, Bool, true, false, List, [], ◌∷◌, ◌++◌, length}
 use Rattle.std.proofs.Common.{Option, Some, None, inl, inr, refl, sym, ap, ◌∙◌, subst, arith}
-use Rattle.std.proofs.Common.{append_assoc, length-append, append-nil, ◌-◌, ◌^◌, take}
+use Rattle.std.proofs.Common.{append_assoc, length-append, append-nil, ◌-◌, take}
 use Rattle.std.specs.Prelude.{IfSome, slice_get, nat_lt}
 use Rattle.std.specs.Io.KnownBytes.{Appends, Keeps, IsAtEnd, prepend_known}
 use Rattle.std.proofs.lemmas.Bool.{ltb-false, ltb-true}
@@ -43,10 +43,6 @@ pub serves_one : (p : Program) (line text : List ℕ) (m m' : Mode) (d d' : Devi
 serves_one p line text m m' d d' w w' k k' does told =
     (text, m', d', w', k', does, told, (refl, refl, refl, refl))
 
-pub takes_none : (l : Option (List ℕ)) → TakesLines l [] l
-takes_none None = tt
-takes_none (Some text) = refl
-
 pub takes_more : (l l1 l2 : Option (List ℕ)) (xs ys : List (List ℕ)) → TakesLines l xs l1
     → TakesLines l1 ys l2 → TakesLines l (xs ++ ys) l2
 takes_more None l1 l2 xs ys first next = tt
@@ -54,12 +50,6 @@ takes_more (Some t) None l2 xs ys first next = absurd first
 takes_more (Some t) (Some t1) None xs ys first next = absurd next
 takes_more (Some t) (Some t1) (Some t2) xs ys first next =
     first ∙ ap (λ ls. xs ++ ls) next ∙ sym (append_assoc xs ys (lines t2))
-
--- nothing is read yet
-pub takes_first : (l : Option (List ℕ)) (ahead : List ℕ) → ahead ≡ []
-    → TakesLines l [] (prepend_known ahead l)
-takes_first None ahead none = tt
-takes_first (Some text) ahead none = ap (λ z. lines (z ++ text)) (sym none)
 
 takes_kept : (l l1 : Option (List ℕ)) → Keeps l l1 → TakesLines l [] l1
 takes_kept None l1 kept = tt

@@ -12,7 +12,7 @@ ghost use Rattle.session_serve.specs.inside.Next.{AnsweredAs};
 use crate::bad_lines::BadLines;
 use cnvm_script::{Command, LineFault, read_line};
 use cnvm_session::{Answer, Program, Session, Traps, answer_text};
-use nvm_base::{Sink, Steps, Text, write_all};
+use nvm_base::{Sink, Steps, Text, write_whole};
 use pmem::Pmem;
 use std::alloc::{AllocError, Global};
 use std::sync::ledger::Ledger;
@@ -127,7 +127,7 @@ fn put<K: Sink>(out: &mut K, text: &str) -> Result<(), Unanswered>
     ensures why { OnErr result (result ≡ Err Unanswered.Unwritten) }
     ensures count { K.faults out.old ≤ K.faults out.new }
 {
-    match write_all(out, text.as_bytes()) {
+    match write_whole(out, text.as_bytes()) {
         Ok(()) => Ok(()),
         Err(_) => Err(Unanswered::Unwritten),
     }

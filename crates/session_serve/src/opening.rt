@@ -20,7 +20,7 @@ use crate::serving::{Served, serve};
 use crate::standing::{InFile, InMemory, Watch};
 use cnvm_session::{Program, Session, StartFault, Traps, create};
 use file_pmem::{FilePmem, LineFile};
-use nvm_base::{Sink, Source, Steps, write_all};
+use nvm_base::{Sink, Source, Steps, write_whole};
 use pmem::{Lines, Pmem};
 use session_run::start_held;
 use std::alloc::Global;
@@ -87,7 +87,7 @@ fn serve_new<S: Source, K: Sink, P: Pmem, W: Watch<P>, B: BadLines, L: Ledger>(
     ensures done_kept { result ≡ Served.Done → W.kept dev.new }
     ensures read_kept { result ≡ Served.ReadFault → W.kept dev.new }
 {
-    if let Err(_) = write_all(out, CREATED.as_bytes()) {
+    if let Err(_) = write_whole(out, CREATED.as_bytes()) {
         return Served::WriteFault;
     }
     if !watch.stands(dev) {

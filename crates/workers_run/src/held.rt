@@ -19,7 +19,7 @@ use crate::run::note_traps;
 use crate::writing::{Unwritten, put_lines};
 use cnvm_session::{Program, StartFault, Traps, open_lines};
 use file_pmem::{FilePmem, LineFile};
-use nvm_base::{Sink, Steps, Words, write_all};
+use nvm_base::{Sink, Steps, Words, write_whole};
 use pmem::{Lines, Pmem};
 use pool_layout::pool_lines;
 use pool_workers::MakeFault;
@@ -205,7 +205,7 @@ pub fn run_new<K: Sink, N: Lines + Drop, F: LineFile + Drop, L: Ledger>(
     dev.know();
     dev.hold(file);
     dev.wake();
-    if let Err(_) = write_all(out, CREATED.as_bytes()) {
+    if let Err(_) = write_whole(out, CREATED.as_bytes()) {
         return Err(RunFault::Write);
     }
     answer_held(

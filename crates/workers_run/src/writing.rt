@@ -7,7 +7,7 @@ ghost use Rattle.nvm_base.specs.Rose.{Rose};
 ghost use Rattle.workers_session.specs.LineText.{line_text};
 ghost use Rattle.workers_run.specs.WorkersRan.{lines_text};
 
-use nvm_base::{Sink, write_all};
+use nvm_base::{Sink, write_whole};
 use std::alloc::Global;
 use workers_session::{WorkersLine, line_text};
 
@@ -31,7 +31,7 @@ fn put_line<K: Sink>(alloc: Global, line: &WorkersLine, out: &mut K) -> Result<(
     let Ok(text) = line_text(alloc, line) else {
         return Err(Unwritten::NoMemory);
     };
-    match write_all(out, text.as_str().as_bytes()) {
+    match write_whole(out, text.as_str().as_bytes()) {
         Ok(()) => Ok(()),
         Err(_) => Err(Unwritten::WriteFault),
     }
