@@ -36,7 +36,7 @@ use Rattle.ir.specs.WellFormed.{IsFunction, IsWellFormed}
 use Rattle.lower.specs.Program.{lowered_function, lowered}
 use Rattle.lower_law.specs.Law as lower
 use Rattle.lower_law.proofs.Laws as lowering
-use Rattle.lower_law.proofs.Functions.{whole_le}
+use Rattle.lower_law.proofs.runs.Functions.{whole_le}
 use Rattle.code_meaning.specs.Calls.{CallsNoTransaction}
 use Rattle.code_meaning.specs.Constants.{HasWordConstants}
 use Rattle.code_meaning.specs.Whole.{whole}

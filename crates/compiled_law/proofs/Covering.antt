@@ -19,8 +19,8 @@ use Rattle.pm_machine.specs.declared.effect.Effect.TheVariants.{Loads, Scans, St
 use Rattle.pm_machine.specs.declared.effect.Effect.TheVariants.{Fences, Quiet}
 use Rattle.pm_machine.specs.declared.records.Policy.TheVariants.{EndPool}
 use Rattle.pm_machine.specs.Find.{IsHeader}
-use Rattle.run_law.specs.Seen.{seen_all}
-use Rattle.run_law.proofs.Headers.{input_headers, headers_input, over_headers, headers_over}
+use Rattle.run_law.specs.Seen.{headers_before, seen_all}
+use Rattle.run_law.proofs.Headers.{input_headers, over_headers, headers_over}
 use Rattle.run_law.proofs.Headers.{first_headers, headers_first}
 use Rattle.run_law.proofs.Inputs.{input_seen, over_seen}
 use Rattle.run_law.specs.Sound.{IsCoveredRun}
@@ -28,6 +28,14 @@ use Rattle.machine_law.specs.pieces.Stands.{place_of, heap_word, header_word}
 use Rattle.machine_law.specs.pieces.Shows.{IsThere, ShowsDeeds, done, looks, scans, reads, plain}
 use Rattle.machine_law.specs.pieces.Shows.{logs, heads}
 use Rattle.machine_law.specs.matching.Accesses.{accesses}
+
+-- an input of a run that begins with loads of headers is a header or an input of what follows
+headers_input : (w d k u : ℕ) (es : List past.Effect) → past.IsInput (headers_before w d k es) u →
+    IsHeader w d k u ⊎ past.IsInput es u
+headers_input w d zero u es h = inr h
+headers_input w d (suc k) u es (inl e) = inl (inl e)
+headers_input w d (suc k) u es (inr h) =
+    ⊎_elim (λ is. inl (inr is)) (λ later. inr later) (headers_input (w + d) d k u es h)
 
 -- the inputs and overwritten words of a run are those of its loads, stores and logs
 input_accesses : (es : List Effect) (w : ℕ) → past.IsInput (seen_all es) w

@@ -1,5 +1,5 @@
 -- The loads of headers change only the inputs of a run as the crash law sees it.
-use Rattle.std.proofs.Common.{◌≡◌, ◌⊎◌, inl, inr, ⊎_elim, ℕ, zero, suc, ◌+◌, List, Option, Some}
+use Rattle.std.proofs.Common.{◌≡◌, ◌⊎◌, inl, inr, ℕ, zero, suc, ◌+◌, List, Option, Some}
 use Rattle.std.proofs.Common.{None, ℤ, refl}
 use Rattle.pool_layout.specs.declared.limits.Sizes.{Sizes}
 use Rattle.crash_law.specs.Effects.{Effect, IsInput, IsOverwritten, IsLoggedFirst, IsPaired}
@@ -61,10 +61,3 @@ input_headers w d zero u es (inr h) = h
 input_headers w d (suc k) u es (inl (inl e)) = inl e
 input_headers w d (suc k) u es (inl (inr h)) = inr (input_headers (w + d) d k u es (inl h))
 input_headers w d (suc k) u es (inr h) = inr (input_headers (w + d) d k u es (inr h))
-
-pub headers_input : (w d k u : ℕ) (es : List Effect) → IsInput (headers_before w d k es) u →
-    IsHeader w d k u ⊎ IsInput es u
-headers_input w d zero u es h = inr h
-headers_input w d (suc k) u es (inl e) = inl (inl e)
-headers_input w d (suc k) u es (inr h) =
-    ⊎_elim (λ is. inl (inr is)) (λ later. inr later) (headers_input (w + d) d k u es h)

@@ -5,7 +5,7 @@ use Rattle.pm_machine.specs.declared.effect.Effect.{Effect}
 use Rattle.pm_machine.specs.declared.effect.Effect.TheVariants as effect
 use Rattle.pm_machine.specs.Inputs as own
 use Rattle.run_law.specs.Seen.{seen_all}
-use Rattle.run_law.proofs.Headers.{input_headers, headers_input, over_headers, headers_over}
+use Rattle.run_law.proofs.Headers.{input_headers, over_headers, headers_over}
 
 pub input_seen : (es : List Effect) (u : ℕ) → own.IsInput es u → IsInput (seen_all es) u
 input_seen [] u h = h
@@ -18,18 +18,6 @@ input_seen (effect.Logs w ∷ es) u h = input_seen es u h
 input_seen (effect.Flushes l ∷ es) u h = input_seen es u h
 input_seen (effect.Fences ∷ es) u h = input_seen es u h
 input_seen (effect.Quiet ∷ es) u h = input_seen es u h
-
-pub seen_input : (es : List Effect) (u : ℕ) → IsInput (seen_all es) u → own.IsInput es u
-seen_input [] u h = h
-seen_input (effect.Loads w ∷ es) u h = ⊎_elim (λ e. inl e) (λ r. inr (seen_input es u r)) h
-seen_input (effect.Scans w apart many ∷ es) u h =
-    ⊎_elim (λ is. inl is) (λ r. inr (seen_input es u r))
-    (headers_input w apart many u (seen_all es) h)
-seen_input (effect.Stores w x ∷ es) u h = (h.0, seen_input es u h.1)
-seen_input (effect.Logs w ∷ es) u h = seen_input es u h
-seen_input (effect.Flushes l ∷ es) u h = seen_input es u h
-seen_input (effect.Fences ∷ es) u h = seen_input es u h
-seen_input (effect.Quiet ∷ es) u h = seen_input es u h
 
 pub over_seen : (es : List Effect) (u : ℕ) → own.IsOverwritten es u → IsOverwritten (seen_all es) u
 over_seen [] u h = h

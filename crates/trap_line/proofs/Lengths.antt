@@ -12,9 +12,7 @@ use Rattle.c_tree.specs.ExprTree.{ExprTree, Arguments, Ident}
 use Rattle.c_tree.specs.StmtTree as stmt
 use Rattle.c_tree.specs.StmtTree.{StmtTree, Statements, SimpleTree, FirstTree, InitialTree}
 use Rattle.c_tree.specs.ItemTree.{FunctionTree, ParameterTree}
-use Rattle.c_tree.specs.Program.{Program}
 use Rattle.c_types.specs.Expressions.{sides_type}
-use Rattle.c_types.specs.Tables.{Tables}
 use Rattle.ir.specs.declared.instruction.Instruction.{Instruction}
 use Rattle.ir.specs.declared.instruction.Instruction.TheVariants.{Copy}
 use Rattle.lower.specs.declared.form.Form.{Form}
@@ -29,7 +27,7 @@ use Rattle.lower.specs.Lowers.{first_code, first_end, variables_after_first, thi
 use Rattle.lower.specs.Lowers.{stmt_code, stmt_end, statements_code, statements_end}
 use Rattle.lower.specs.Lowers.{variables_after}
 use Rattle.lower.specs.Program.{parameters_code, parameters_end, variables_after_parameters}
-use Rattle.lower.specs.Program.{no_variables, function_code, lowered_function, context_at}
+use Rattle.lower.specs.Program.{no_variables, function_code}
 use Rattle.trap_line.specs.declared.spot.Spot.{Spot}
 use Rattle.trap_line.specs.Spots.{never, form_spots, exp_spots, target_spots, arguments_spots}
 use Rattle.trap_line.specs.Spots.{or_spots, set_spots, update_spots, simple_spots, initial_spots}
@@ -264,8 +262,3 @@ code_long k f =
     (parameters_long k f.body 0 f.parameters 0)
     (both_long (statements_spots f.body) _ (statements_code k v f.body q q p) _
     (statements_long k v f.body q q p) refl)
-
--- each instruction of a function's code has its tokens, and there are no more
-pub spots_long : (t : Tables) (tree : Program) (f : FunctionTree)
-    → length (function_spots f) ≡ length (lowered_function t tree f).code
-spots_long t tree f = code_long (context_at t tree (length f.parameters)) f

@@ -4,7 +4,7 @@ use Rattle.std.proofs.Common.{ℤ}
 use Rattle.pool_layout.specs.declared.limits.Sizes.{Sizes}
 use Rattle.pool_map.specs.PoolMap.{PoolMap}
 use Rattle.ir.specs.declared.site.Site.{Site}
-use Rattle.code_meaning.specs.Code.{Frame, Here, Move, Ends, Trapped, register_at}
+use Rattle.code_meaning.specs.Code.{Frame, Here, Ends, Trapped}
 use Rattle.code_meaning.specs.Code as code
 use Rattle.code_meaning.specs.Deeds.{Deed}
 use Rattle.pool_map.specs.declared.trap.TrapKind.{TrapKind}
@@ -37,16 +37,6 @@ module _ (s : Sizes) (logged : Site → Bool) (piece : List Local) where
       comes (shown s logged ds cs es fs first second)
       (run_on (local_step s piece) i j l (mid (onward v es v.ticks)) _ e f
       ∙ ap (λ (u : World). Goes (last u)) (onward_append v es fs v.ticks v.ticks))
-
-  -- and steps after it that don't change the world
-  pub comes_quiet : (i j : ℕ) (l : Loc) (v : World) (ds : List Deed) (es : List Effect)
-      (mid last : World → Loc) →
-      Comes s logged v ds es mid (local_run (local_step s piece) i l)
-      → ((u : World) → local_run (local_step s piece) j (mid u) ≡ Goes (last u))
-      → Comes s logged v ds es last (local_run (local_step s piece) (i + j) l)
-  comes_quiet i j l v ds es mid last (comes shows e) more =
-      comes shows (run_on (local_step s piece) i j l (mid (onward v es v.ticks)) _ e
-      (more (onward v es v.ticks)))
 
   -- the piece ends at the place that the part reaches
   pub done_by : (i : ℕ) (l : Loc) (v : World) (ds : List Deed) (es : List Effect) (last : World
